@@ -14,6 +14,9 @@ use Rattle.claims.specs.declared.kinds.Digests.{Digests}
 abbrev pub algorithmOf : ℕ → Option Algorithm
 algorithmOf n = cond (eqb n 1) (Some Sha256) (cond (eqb n 7) (Some Sha384) (cond (eqb n 8) (Some Sha512) None))
 
+abbrev pub noDigests : Digests
+noDigests = record { sha256 = None; sha384 = None; sha512 = None }
+
 -- a set of one digest, of as many bytes as its algorithm makes
 abbrev pub digestOf : Algorithm → List ℕ → Option Digests
 digestOf Sha256 xs = mapped (λ d. record { sha256 = Some d; sha384 = None; sha512 = None }) (keptFrom 32 32 xs)

@@ -1,3 +1,4 @@
 pub mod Bytes
 pub mod Digests
+pub mod Values
 pub mod Limits

@@ -1,12 +1,13 @@
 use Prim.Native.Nat.{ℕ, _≤_}
 use mathlib.Core.Path.{_≡_}
 use mathlib.Core.List.{List, [], _∷_}
-use mathlib.Core.Bool.{Bool, true, false, _||_}
+use mathlib.Core.Bool.{Bool, true, false, _&&_, _||_}
+use lib.Dec.{leb}
 use lib.ListN.{length}
 use Rattle.std.specs.Options.{isSome}
 use Rattle.std.specs.Slices.{found}
 use Rattle.std.specs.declared.option.Option.{Option}
-use Rattle.claims.specs.Bytes.{bounded, content}
+use Rattle.claims.specs.Bytes.{bounded, content, same}
 use Rattle.claims.specs.declared.kinds.Bytes.{Bytes}
 use Rattle.claims.specs.declared.kinds.Digests.{Digests}
 use Rattle.claims.specs.declared.kinds.Flags.{Flags}
@@ -14,11 +15,9 @@ use Rattle.claims.specs.declared.kinds.Environment.{Environment}
 use Rattle.claims.specs.declared.kinds.Values.{Values}
 use Rattle.claims.specs.declared.kinds.Claim.{Claim}
 
--- at least `least` bytes and at most N, as they are kept
-pub record Holds {N : ℕ} (least : ℕ) (s : Bytes N) : Type 0 where
-  pub kept : s ≡ bounded N (content s)
-  pub enough : least ≤ length (content s)
-  pub few : length (content s) ≤ N
+-- at least `least` bytes and at most N, in the form in which they are kept
+abbrev pub Holds : {N : ℕ} → ℕ → Bytes N → Type 0
+Holds {N} least s = (leb least (length (content s)) && leb (length (content s)) N && same s (bounded N (content s))) ≡ true
 
 -- some field of an environment is there
 abbrev pub someField : Environment → Bool

@@ -19,12 +19,6 @@ impl Algorithm {
 }
 
 impl Digests {
-    pub const NONE: Digests = Digests {
-        sha256: None,
-        sha384: None,
-        sha512: None,
-    };
-
     // A single digest; none where the bytes are not as many as the algorithm makes.
     pub fn single(algorithm: Algorithm, part: &[u8]) -> Option<Digests>
         ensures { λ r. ⌜ r ≡ digestOf algorithm (now (part .entry)) ⌝ }

@@ -21,10 +21,22 @@ pub struct Digests {
     pub sha512: Option<Bytes<64>>,
 }
 
+impl Digests {
+    pub const NONE: Digests = Digests {
+        sha256: None,
+        sha384: None,
+        sha512: None,
+    };
+}
+
 // Flags 0 to 9, each missing, false or true.
 #[derive(Clone, Copy)]
 pub struct Flags {
     pub states: [Option<bool>; 10],
+}
+
+impl Flags {
+    pub const NONE: Flags = Flags { states: [None; 10] };
 }
 
 // What a claim speaks of. Any field may be missing, but not all.
@@ -38,6 +50,17 @@ pub struct Environment {
     pub instance: Option<Bytes<33>>,
 }
 
+impl Environment {
+    pub const NONE: Environment = Environment {
+        class: None,
+        vendor: None,
+        model: None,
+        layer: None,
+        index: None,
+        instance: None,
+    };
+}
+
 // What is claimed: at least one value.
 #[derive(Clone, Copy)]
 pub struct Values {
@@ -46,6 +69,16 @@ pub struct Values {
     pub digests: Digests,
     pub flags: Flags,
     pub raw: Option<Bytes<64>>,
+}
+
+impl Values {
+    pub const NONE: Values = Values {
+        version: None,
+        svn: None,
+        digests: Digests::NONE,
+        flags: Flags::NONE,
+        raw: None,
+    };
 }
 
 // A claim: an environment, perhaps the key of one of its elements, and values.

@@ -1,5 +1,5 @@
 use Prim.Native.Nat.{ℕ}
-use mathlib.Core.Bool.{Bool, cond}
+use mathlib.Core.Bool.{Bool, true, cond}
 use mathlib.Core.List.{List}
 use lib.Dec.{ltb, leb}
 use lib.ListN.{length}
@@ -36,3 +36,8 @@ orRefuse (Some x) e f = f x
 -- a message that may be read: 1 to 65,535 bytes
 abbrev pub admitted : List ℕ → Outcome (Unit {0})
 admitted m = need (ltb 0 (length m)) MessageEmpty (need (leb (length m) 65535) MessageTooLong (Ok tt))
+
+-- a number is above the one before it, if there is one
+abbrev pub above : Option ℕ → ℕ → Bool
+above None n = true
+above (Some before) n = ltb before n

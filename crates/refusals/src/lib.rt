@@ -1,6 +1,7 @@
 ghost use mathlib.Core.Path.{_≡_};
 ghost use Rattle.refusals.specs.Figures.{number, layer, place};
-ghost use Rattle.refusals.specs.Reading.{admitted};
+
+pub mod reading;
 
 // Why a call is turned down. A refusal that speaks of a place in a message or of a number holds it.
 #[derive(Clone, Copy, PartialEq, Eq, Debug)]
@@ -96,17 +97,4 @@ impl Refusal {
             | Refusal::TriplesFull => 0,
         }
     }
-}
-
-// Whether a message may be read at all: it has 1 to 65,535 bytes.
-pub fn admit(message: &[u8]) -> Result<(), Refusal>
-    ensures { λ r. ⌜ r ≡ admitted (now (message .entry)) ⌝ }
-{
-    if message.is_empty() {
-        return Err(Refusal::MessageEmpty);
-    }
-    if message.len() > 65535 {
-        return Err(Refusal::MessageTooLong);
-    }
-    Ok(())
 }

@@ -1,0 +1,5 @@
+pub mod Sizes
+pub mod Walks
+pub mod Laid
+pub mod Made
+pub mod Told

@@ -1,0 +1,6 @@
+pub mod Blocks
+pub mod Claims
+pub mod Setups
+pub mod Rows
+pub mod Layout
+pub mod Laws

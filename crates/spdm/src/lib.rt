@@ -1,0 +1,3 @@
+mod blocks;
+pub mod kinds;
+pub mod reader;
