@@ -4,3 +4,4 @@ pub mod Setups
 pub mod Rows
 pub mod Layout
 pub mod Laws
+pub mod Examples

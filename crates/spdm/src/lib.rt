@@ -1,3 +1,4 @@
 mod blocks;
+pub mod examples;
 pub mod kinds;
 pub mod reader;
