@@ -1,0 +1,17 @@
+// The first word of a line, and the rest where the line has more words.
+#[derive(Clone, Copy)]
+pub struct Split<'a> {
+    pub word: &'a [u8],
+    pub rest: Option<&'a [u8]>,
+}
+
+// What a line asks for.
+#[derive(Drop)]
+pub enum Command {
+    // Read an SPDM measurement block, for a class and a hash algorithm.
+    ReadSpdm {
+        class: Vec<u8>,
+        algorithm: u64,
+        message: Vec<u8>,
+    },
+}
