@@ -24,3 +24,20 @@ pub fn rises(last: Option<u64>, number: u64) -> bool
         Some(before) => before < number,
     }
 }
+
+#[cfg(test)]
+mod tests {
+    use super::*;
+    use crate::RefusalDebug;
+    use crate::RefusalPartialEq;
+    use std::test::*;
+
+    #[test]
+    fn lengths(rt: LibcRuntime) -> Result<(), Fail> {
+        let longest = vec![in rt.alloc(); 0u8; 65535]?;
+        check_eq(admit(longest.as_slice()), Ok(()))?;
+        let longer = vec![in rt.alloc(); 0u8; 65536]?;
+        check_eq(admit(longer.as_slice()), Err(Refusal::MessageTooLong))?;
+        check_eq(admit(b""), Err(Refusal::MessageEmpty))
+    }
+}

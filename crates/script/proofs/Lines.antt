@@ -1,6 +1,6 @@
 use Prim.Native.Nat.{ℕ, _+_, _/_, _%_, _^_, _<_}
-use mathlib.Core.Bool.{Bool, true, false, _&&_}
-use mathlib.Core.Path.{_≡_, refl, sym, ap, _∙_}
+use mathlib.Core.Bool.{true, false}
+use mathlib.Core.Path.{_≡_, refl, ap, _∙_}
 use mathlib.Core.List.{List, [], _∷_, _++_}
 use native.Mathlib.Omega.{arith}
 use borrow.Author.Needs.{needs}
@@ -22,7 +22,7 @@ use Rattle.script.specs.Commands.{Request, readSpdm, readSpdmFrom, commandOf, 
 use Rattle.script.specs.Complaints.{Heard, then}
 use Rattle.script.specs.Hex.{hexDigit, hexPair, hexText}
 use Rattle.script.specs.Numbers.{valueAfter, numberOf}
-use Rattle.script.specs.Words.{onto, wordsOf, spaced, Solid}
+use Rattle.script.specs.Words.{wordsOf, spaced, Solid}
 use Rattle.script.proofs.Digits.{hex-back}
 
 -- a word without a space, alone and before a space

@@ -107,7 +107,8 @@ fn is_skipped(line: &[u8]) -> bool
     is_remark(line) || is_blank(line)
 }
 
-// The command of a line, or none where the line says nothing.
+// The command of a line, or none where the line says nothing. Words stand one space apart. The complaint is the first that is found:
+// no command has the first two words, then each word from the left (missing, then unreadable), then a word too many.
 pub fn parse(heap: Global, line: &[u8]) -> Result<Option<Command>, Complaint>
     ensures value { λ r. ⌜ Tells (mapped spoken) r (commandOf (now (line .entry))) ⌝ }
     ensures law { λ _. ⌜ ((asked : Request) → Sayable asked → commandOf (lineOf asked) ≡ Ok (Some asked)) ⌝ }

@@ -8,7 +8,7 @@ pub struct Split<'a> {
 // What a line asks for.
 #[derive(Drop)]
 pub enum Command {
-    // Read an SPDM measurement block, for a class and a hash algorithm.
+    // `read spdm CLASS ALGORITHM MESSAGE`: read SPDM measurement blocks, of a class and with a hash algorithm.
     ReadSpdm {
         class: Vec<u8>,
         algorithm: u64,

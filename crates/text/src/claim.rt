@@ -90,7 +90,7 @@ fn push_flag(
     state: Option<bool>,
 ) -> Result<bool, AllocError>
     ensures text { λ r. ⌜ Appends r (string-bytes (now (out .entry))) (string-bytes (now (out .exit))) (flagText later number state) ⌝ }
-    ensures later { λ r. ⌜ made r (λ stands. stands ≡ (later || isSome state)) ⌝ }
+    ensures stands { λ r. ⌜ made r (λ there. there ≡ (later || isSome state)) ⌝ }
 {
     let Some(state) = state else {
         return Ok(later);
