@@ -1,0 +1,5 @@
+pub mod Heads
+pub mod Parts
+pub mod Items
+pub mod Contents
+pub mod Holders

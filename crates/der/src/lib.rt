@@ -1,0 +1,5 @@
+pub mod contents;
+mod heads;
+pub mod holders;
+pub mod kinds;
+pub mod parts;
