@@ -1,5 +1,5 @@
 ghost use mathlib.Core.Path.{_≡_};
-ghost use Prim.Native.Nat.{ℕ, _+_, _-_, _≤_};
+ghost use Prim.Native.Nat.{ℕ, _+_, _-_, _<_, _≤_};
 ghost use lib.ListN.{length, drop};
 ghost use Rattle.std.specs.Slices.{found};
 ghost use Rattle.der.specs.Heads.{big, run, longTag, tagWidth, longSize, sizeOf, headOf};
@@ -59,7 +59,7 @@ fn long_tag(bytes: &[u8]) -> Option<usize>
 // How many bytes a tag has.
 fn tag_width(bytes: &[u8]) -> Option<usize>
     ensures value { λ r. ⌜ r ≡ tagWidth (now (bytes .entry)) ⌝ }
-    ensures within { λ r. ⌜ found r (λ n. n ≤ length (now (bytes .entry))) ⌝ }
+    ensures within { λ r. ⌜ found r (λ n. (0 < n) × (n ≤ length (now (bytes .entry)))) ⌝ }
 {
     let [first, ..] = bytes else {
         return None;
@@ -111,7 +111,7 @@ fn size_of(bytes: &[u8]) -> Option<Size>
 // The item at the beginning of some bytes, where a whole one stands there.
 pub fn head_of(bytes: &[u8]) -> Option<Head>
     ensures value { λ r. ⌜ r ≡ headOf (now (bytes .entry)) ⌝ }
-    ensures within { λ r. ⌜ found r (λ h. h .header + h .size ≤ length (now (bytes .entry))) ⌝ }
+    ensures within { λ r. ⌜ found r (λ h. (0 < h .header) × (h .header + h .size ≤ length (now (bytes .entry)))) ⌝ }
 {
     let Some(width) = tag_width(bytes) else {
         return None;

@@ -43,3 +43,10 @@ pub struct Read<T> {
     pub value: T,
     pub size: usize,
 }
+
+// The content of an item, and what follows the item.
+#[derive(Clone, Copy)]
+pub struct Held<'a> {
+    pub content: Part<'a>,
+    pub rest: Part<'a>,
+}

@@ -84,6 +84,7 @@ fn item_of(tag: u8, content: Part<'_>) -> Item<'_>
 // The first item of a part, where a whole one stands there, and what follows it.
 pub fn take_item(part: Part<'_>) -> Option<Taken<'_>>
     ensures value { λ r. ⌜ mapped taken r ≡ itemOf (piece (part .entry)) ⌝ }
+    ensures shorter { λ r. ⌜ found r (λ t. length (piece (t .rest) .bytes) < length (piece (part .entry) .bytes)) ⌝ }
 {
     let Some(head) = head_of(part.bytes()) else {
         return None;
