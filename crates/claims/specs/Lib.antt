@@ -1,4 +1,5 @@
 pub mod Bytes
 pub mod Digests
+pub mod Environments
 pub mod Values
 pub mod Limits

@@ -1,5 +1,5 @@
 ghost use mathlib.Core.Path.{_≡_};
-ghost use Rattle.claims.specs.Digests.{algorithmOf, digestOf};
+ghost use Rattle.claims.specs.Digests.{algorithmOf, hasDigest, withDigest};
 use crate::kinds::Algorithm;
 use crate::kinds::Bytes;
 use crate::kinds::Digests;
@@ -19,22 +19,33 @@ impl Algorithm {
 }
 
 impl Digests {
-    // A single digest; none where the bytes are not as many as the algorithm makes.
-    pub fn single(algorithm: Algorithm, part: &[u8]) -> Option<Digests>
-        ensures { λ r. ⌜ r ≡ digestOf algorithm (now (part .entry)) ⌝ }
+    // Whether a digest of an algorithm is there.
+    pub fn has(&self, algorithm: Algorithm) -> bool
+        ensures { λ r. ⌜ r ≡ hasDigest (now (self .entry)) algorithm ⌝ }
+    {
+        match algorithm {
+            Algorithm::Sha256 => self.sha256.is_some(),
+            Algorithm::Sha384 => self.sha384.is_some(),
+            Algorithm::Sha512 => self.sha512.is_some(),
+        }
+    }
+
+    // The set with one digest more; none where its bytes are not as many as the algorithm makes.
+    pub fn with(self, algorithm: Algorithm, part: &[u8]) -> Option<Digests>
+        ensures { λ r. ⌜ r ≡ withDigest self algorithm (now (part .entry)) ⌝ }
     {
         match algorithm {
             Algorithm::Sha256 => Some(Digests {
                 sha256: Some(Bytes::new(part, 32)?),
-                ..Digests::NONE
+                ..self
             }),
             Algorithm::Sha384 => Some(Digests {
                 sha384: Some(Bytes::new(part, 48)?),
-                ..Digests::NONE
+                ..self
             }),
             Algorithm::Sha512 => Some(Digests {
                 sha512: Some(Bytes::new(part, 64)?),
-                ..Digests::NONE
+                ..self
             }),
         }
     }

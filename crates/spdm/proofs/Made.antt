@@ -22,7 +22,8 @@ use Rattle.claims.specs.declared.kinds.Values.{Values}
 use Rattle.claims.specs.declared.kinds.Claim.{Claim}
 use Rattle.spdm.specs.declared.kinds.Setup.{Setup}
 use Rattle.spdm.specs.Blocks.{Block, little}
-use Rattle.spdm.specs.Claims.{onlyDigests, onlyRaw, onlySvn, svnOf, valuesOf, claimed, claimOf}
+use Rattle.claims.specs.Values.{noValues, withSvn, withDigests, withRaw}
+use Rattle.spdm.specs.Claims.{svnOf, valuesOf, claimed, claimOf}
 use Rattle.spdm.specs.Layout.{Digest, sha256, sha384, sha512, Says, digest, raw, svn, Makes, makes}
 
 cond-back : {A : Type 0} (b : Bool) (x y z : A) → cond b x y ≡ z → ((b ≡ true) × (x ≡ z)) ⊎ (y ≡ z)
@@ -65,26 +66,26 @@ digest-forth {v = v} (sha384 e) = rw (whole 48 v e)
 digest-forth {v = v} (sha512 e) = rw (whole 64 v e)
 
 raw-back : (algorithm : Algorithm) (kind : ℕ) (v : List ℕ) (vs : Values) → 128 ≤ kind → kind ≤ 132
-    → mapped onlyRaw (keptFrom 64 1 v) ≡ Some vs → Says algorithm kind v vs
+    → mapped (withRaw noValues) (keptFrom 64 1 v) ≡ Some vs → Says algorithm kind v vs
 raw-back algorithm kind v vs low high e =
-    let p = mapped-back onlyRaw (keptFrom 64 1 v) vs e in
+    let p = mapped-back (withRaw noValues) (keptFrom 64 1 v) vs e in
     let k = kept-from 64 1 v (p .0) (p .1) in
     let P : Values → Type 0 = λ x. Says algorithm kind v x in
-    subst P (ap onlyRaw (k .0) ∙ p .2) (raw low high (k .1) (k .2))
+    subst P (ap (withRaw noValues) (k .0) ∙ p .2) (raw low high (k .1) (k .2))
 
-svn-back : (algorithm : Algorithm) (v : List ℕ) (vs : Values) → mapped onlySvn (svnOf v) ≡ Some vs → Says algorithm 135 v vs
+svn-back : (algorithm : Algorithm) (v : List ℕ) (vs : Values) → mapped (withSvn noValues) (svnOf v) ≡ Some vs → Says algorithm 135 v vs
 svn-back algorithm v vs e =
-    let p = mapped-back onlySvn (svnOf v) vs e in
+    let p = mapped-back (withSvn noValues) (svnOf v) vs e in
     let q = some-if (eqb (length v) 8 && leb (little v) 4294967295) (little v) (p .0) (p .1) in
     let t = and-parts (eqb (length v) 8) (leb (little v) 4294967295) (q .0) in
     let P : Values → Type 0 = λ x. Says algorithm 135 v x in
-    subst P (ap onlySvn (q .1) ∙ p .2) (svn (eqb-true _ _ (t .0)) (leb-true _ _ (t .1)))
+    subst P (ap (withSvn noValues) (q .1) ∙ p .2) (svn (eqb-true _ _ (t .0)) (leb-true _ _ (t .1)))
 
 says-back : (algorithm : Algorithm) (kind : ℕ) (v : List ℕ) (vs : Values) → valuesOf algorithm kind v ≡ Some vs → Says algorithm kind v vs
 says-back algorithm kind v vs e =
     elim (cond-back (leb kind 4) _ _ _ e) [
       | inl a ↦
-          let p = mapped-back onlyDigests (digestOf algorithm v) vs (a .1) in
+          let p = mapped-back (withDigests noValues) (digestOf algorithm v) vs (a .1) in
           let P : Values → Type 0 = λ x. Says algorithm kind v x in
           subst P (p .2) (digest (leb-true _ _ (a .0)) (digest-back algorithm v (p .0) (p .1)))
       | inr a ↦ elim (cond-back (leb 128 kind && leb kind 132) _ _ _ a) [
@@ -101,14 +102,14 @@ says-back algorithm kind v vs e =
     ]
 
 says-forth : (algorithm : Algorithm) (kind : ℕ) (v : List ℕ) (vs : Values) → Says algorithm kind v vs → valuesOf algorithm kind v ≡ Some vs
-says-forth algorithm kind v _ (digest {d = d} k e) = cond-true _ _ _ (le-leb kind 4 k) ∙ ap (mapped onlyDigests) (digest-forth e)
+says-forth algorithm kind v _ (digest {d = d} k e) = cond-true _ _ _ (le-leb kind 4 k) ∙ ap (mapped (withDigests noValues)) (digest-forth e)
 says-forth algorithm kind v _ (raw low high some few) =
     cond-false _ _ _ (lt-leb kind 4 (omega arith))
     ∙ cond-true _ _ _ (and-from _ _ (le-leb 128 kind low) (le-leb kind 132 high))
-    ∙ ap (mapped onlyRaw) (kept-within 64 1 v some few)
+    ∙ ap (mapped (withRaw noValues)) (kept-within 64 1 v some few)
 says-forth algorithm _ v _ (svn long small) =
     let e : svnOf v ≡ Some (little v) = cond-true _ _ _ (and-from _ _ (eq-eqb (length v) 8 long) (le-leb (little v) 4294967295 small)) in
-    ap (mapped onlySvn) e
+    ap (mapped (withSvn noValues)) e
 
 pub makes-back : (s : Setup) (b : Block) (c : Claim) → claimOf s b ≡ Some c → Makes s b c
 makes-back s b c e =
@@ -129,7 +130,7 @@ makes-forth s b _ (makes {values = vs} low high spec says) =
 
 -- a claim that a block makes keeps its limits, if the class of the set-up does
 
-digest-within : {algorithm : Algorithm} {v : List ℕ} {d : Digests} → Digest algorithm v d → WithinValues (onlyDigests d)
+digest-within : {algorithm : Algorithm} {v : List ℕ} {d : Digests} → Digest algorithm v d → WithinValues (withDigests noValues d)
 digest-within {v = v} (sha256 e) = record { some = refl; version = tt; svn = tt; digests = record { sha256 = holds-kept 32 32 v (omega arith) (omega arith); sha384 = tt; sha512 = tt }; flags = refl; raw = tt }
 digest-within {v = v} (sha384 e) = record { some = refl; version = tt; svn = tt; digests = record { sha256 = tt; sha384 = holds-kept 48 48 v (omega arith) (omega arith); sha512 = tt }; flags = refl; raw = tt }
 digest-within {v = v} (sha512 e) = record { some = refl; version = tt; svn = tt; digests = record { sha256 = tt; sha384 = tt; sha512 = holds-kept 64 64 v (omega arith) (omega arith) }; flags = refl; raw = tt }

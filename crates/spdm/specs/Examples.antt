@@ -9,7 +9,8 @@ use Rattle.refusals.specs.declared.Refusal.the-variants.{Malformed}
 use Rattle.claims.specs.Bytes.{bounded}
 use Rattle.claims.specs.declared.kinds.Algorithm.the-variants.{Sha256}
 use Rattle.evidence.specs.Readings.{Reading}
-use Rattle.spdm.specs.Claims.{claimed, onlyRaw}
+use Rattle.claims.specs.Values.{noValues, withRaw}
+use Rattle.spdm.specs.Claims.{claimed}
 use Rattle.spdm.specs.Rows.{reading}
 use Rattle.spdm.specs.Setups.{setupOf}
 use Rattle.spdm.specs.declared.kinds.Setup.{Setup}
@@ -32,7 +33,7 @@ examples =
       class = coin;
       algorithm = 1;
       message = 0x05 ∷ 0x01 ∷ 0x05 ∷ 0x00 ∷ 0x83 ∷ 0x02 ∷ 0x00 ∷ 0x00 ∷ 0xC8 ∷ [];
-      outcome = Ok (claimed (record { class = bounded 32 coin; algorithm = Sha256 }) 5 (onlyRaw (bounded 64 (0x00 ∷ 0xC8 ∷ []))) ∷ []);
+      outcome = Ok (claimed (record { class = bounded 32 coin; algorithm = Sha256 }) 5 (withRaw noValues (bounded 64 (0x00 ∷ 0xC8 ∷ []))) ∷ []);
     }
     ∷ record {
       class = coin;

@@ -70,7 +70,7 @@ fn values_of(algorithm: Algorithm, kind: u8, value: &[u8]) -> Option<Values>
 {
     match kind {
         0x00..=0x04 => Some(Values {
-            digests: Digests::single(algorithm, value)?,
+            digests: Digests::NONE.with(algorithm, value)?,
             ..Values::NONE
         }),
         0x80..=0x84 => Some(Values {
