@@ -36,6 +36,10 @@ someDigest d = isSome (d .sha256) || isSome (d .sha384) || isSome (d .sha512)
 abbrev pub someValue : Values → Bool
 someValue v = isSome (v .version) || isSome (v .svn) || someDigest (v .digests) || someFlag (v .flags .states) || isSome (v .raw)
 
+-- a claim has an environment and a value
+abbrev pub stands : Claim → Bool
+stands c = someField (c .environment) && someValue (c .values)
+
 pub record WithinEnvironment (e : Environment) : Type 0 where
   pub some : someField e ≡ true
   pub class : found (e .class) (Holds 1)

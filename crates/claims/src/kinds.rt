@@ -88,3 +88,11 @@ pub struct Claim {
     pub key: Option<u16>,
     pub values: Values,
 }
+
+impl Claim {
+    pub const NONE: Claim = Claim {
+        environment: Environment::NONE,
+        key: None,
+        values: Values::NONE,
+    };
+}

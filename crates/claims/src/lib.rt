@@ -1,3 +1,4 @@
 pub mod bytes;
 pub mod digests;
 pub mod kinds;
+pub mod presence;

@@ -4,3 +4,4 @@ pub mod Items
 pub mod Kinds
 pub mod Contents
 pub mod Holders
+pub mod Encodes

@@ -1,0 +1,8 @@
+use Rattle.std.proofs.shelf.Equals.{matches-decides, sameBytes-decides}
+use Rattle.std.proofs.shelf.Ways.{same-from-decides}
+use Rattle.dice.proofs.names.is_named.Needs as need
+
+pub returns : need.returns
+returns c =
+    same-from-decides _ _ (matches-decides (c .args .name .now) (c .args .known .now) (c .eq .result) (c .eq .ensures))
+    (sameBytes-decides (c .args .name .now) (c .args .known .now))

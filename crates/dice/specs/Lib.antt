@@ -1,0 +1,6 @@
+pub mod Names
+pub mod Flags
+pub mod Digests
+pub mod Fields
+pub mod Extensions
+pub mod Messages

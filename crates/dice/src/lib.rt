@@ -1,0 +1,7 @@
+mod digests;
+mod extensions;
+mod fields;
+mod flags;
+pub mod kinds;
+mod names;
+pub mod reader;

@@ -1,0 +1,79 @@
+ghost use mathlib.Core.Path.{_≡_};
+ghost use mathlib.Core.Bool.{Bool};
+ghost use Prim.Native.Nat.{ℕ};
+ghost use Rattle.evidence.specs.Readings.{counted, claimAt};
+ghost use Rattle.dice.specs.Messages.{onInstance, messageOf, reading};
+use crate::extensions::ExtensionsElements;
+use crate::kinds::Dice;
+use crate::kinds::Extensions;
+use claims::kinds::Bytes;
+use claims::kinds::Claim;
+use claims::kinds::Environment;
+use der::holders::read_elements;
+use der::items::take_sequence;
+use der::kinds::Part;
+use evidence::Format;
+use refusals::Refusal;
+
+// The claim of DiceTcbInfo, on the instance of DiceUeid where there is one.
+fn on_instance(claim: Claim, instance: Option<Bytes<33>>) -> Claim
+    ensures { λ r. ⌜ r ≡ onInstance claim instance ⌝ }
+{
+    let Some(instance) = instance else {
+        return claim;
+    };
+    Claim {
+        environment: Environment {
+            instance: Some(instance),
+            ..claim.environment
+        },
+        ..claim
+    }
+}
+
+// The claim of a message.
+fn read_message(message: &[u8]) -> Result<Claim, Refusal>
+    ensures { λ r. ⌜ r ≡ messageOf (now (message .entry)) ⌝ }
+{
+    let sequence = take_sequence(Part::whole(message))?;
+    if sequence.content.is_empty() {
+        return Err(Refusal::Missing(0));
+    }
+    let start = Extensions {
+        info: None,
+        instance: None,
+    };
+    let found = read_elements(sequence.content, start)?;
+    let Some(info) = found.info else {
+        return Err(Refusal::Missing(0));
+    };
+    if !sequence.rest.is_empty() {
+        return Err(Refusal::Malformed(sequence.rest.place()));
+    }
+    let claim = on_instance(info, found.instance);
+    if !claim.stands() {
+        return Err(Refusal::Missing(0));
+    }
+    Ok(claim)
+}
+
+pub impl Format for Dice as DiceFormat {
+    ghost reads = { λ _. reading };
+
+    fn count(&self, message: &[u8]) -> Result<usize, Refusal>
+        ensures value { λ r. ⌜ r ≡ counted (reading (now (message .entry))) ⌝ }
+    {
+        read_message(message)?;
+        Ok(1)
+    }
+
+    fn claim(&self, message: &[u8], n: usize) -> Result<Claim, Refusal>
+        ensures value { λ r. ⌜ r ≡ claimAt (reading (now (message .entry))) n ⌝ }
+    {
+        let claim = read_message(message)?;
+        if n > 0 {
+            return Err(Refusal::NoSuchNumber(1));
+        }
+        Ok(claim)
+    }
+}
