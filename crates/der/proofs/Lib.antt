@@ -4,3 +4,4 @@ pub mod Steps
 pub mod Outcomes
 pub mod Encoded
 pub mod Back
+pub mod Sound
