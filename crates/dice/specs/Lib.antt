@@ -4,3 +4,5 @@ pub mod Digests
 pub mod Fields
 pub mod Extensions
 pub mod Messages
+pub mod Layout
+pub mod Laws
