@@ -1,2 +1,4 @@
 pub mod Limits
 pub mod Items
+pub mod Gathers
+pub mod Spoken
