@@ -2,3 +2,4 @@ pub mod Limits
 pub mod Items
 pub mod Gathers
 pub mod Spoken
+pub mod Added

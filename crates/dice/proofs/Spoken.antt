@@ -171,7 +171,7 @@ says-back s t tag at p e =
 
 -- one field
 
-field-forth : (s t : Fields) (v rest : List ℕ) (at : ℕ) → FieldOf s t v
+pub field-forth : (s t : Fields) (v rest : List ℕ) (at : ℕ) → FieldOf s t v
     → (0 < length v) × (fieldAt s (record { at = at; bytes = v ++ rest }) ≡ Ok (record { value = t; size = length v }))
 field-forth s _ v rest at (fieldOf {tag = tag} {t = t} {c = c} k r says) =
     let f = item-forth tag c v rest at k in
