@@ -3,3 +3,4 @@ pub mod Items
 pub mod Gathers
 pub mod Spoken
 pub mod Added
+pub mod Carried

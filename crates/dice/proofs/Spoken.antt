@@ -106,25 +106,25 @@ values-back : (s : Claim) (w : Values) (tag at : ℕ) (p : Piece) → valueField
 values-back s w tag at p e =
     elim (cond-back (eqb tag 0x82) _ _ _ e) [
       | inl a ↦
-        let k = keeps-back (bytesIn 32 1 at (p .bytes)) _ w (a .1) in
-        leaf s tag 0x82 _ _ (p .bytes) (a .0) (lit< tt) (ap (inValues s) (k .2)) (version (bytes-back 32 1 at (k .0) (p .bytes) (k .1)))
+          let k = keeps-back (bytesIn 32 1 at (p .bytes)) _ w (a .1) in
+          leaf s tag 0x82 _ _ (p .bytes) (a .0) (lit< tt) (ap (inValues s) (k .2)) (version (bytes-back 32 1 at (k .0) (p .bytes) (k .1)))
       | inr a ↦ elim (cond-back (eqb tag 0x83) _ _ _ (a .1)) [
         | inl b ↦
-          let k = keeps-back (integerIn 4294967295 at (p .bytes)) _ w (b .1) in
-          leaf s tag 0x83 _ _ (p .bytes) (b .0) (lit< tt) (ap (inValues s) (k .2)) (svn (integer-back 4294967295 at (k .0) (p .bytes) (k .1)))
+            let k = keeps-back (integerIn 4294967295 at (p .bytes)) _ w (b .1) in
+            leaf s tag 0x83 _ _ (p .bytes) (b .0) (lit< tt) (ap (inValues s) (k .2)) (svn (integer-back 4294967295 at (k .0) (p .bytes) (k .1)))
         | inr b ↦ elim (cond-back (eqb tag 0xA6) _ _ _ (b .1)) [
           | inl d ↦
-            let k = keeps-back (digestsIn at p) _ w (d .1) in
-            let g = digests-back (k .0) at p (k .1) in
-            leaf s tag 0xA6 _ _ (p .bytes) (d .0) (lit< tt) (ap (λ (x : Digests). inValues s (withDigests (s .values) x)) (g .3) ∙ ap (inValues s) (k .2)) (digests (g .1) (g .2))
+              let k = keeps-back (digestsIn at p) _ w (d .1) in
+              let g = digests-back (k .0) at p (k .1) in
+              leaf s tag 0xA6 _ _ (p .bytes) (d .0) (lit< tt) (ap (λ (x : Digests). inValues s (withDigests (s .values) x)) (g .3) ∙ ap (inValues s) (k .2)) (digests (g .1) (g .2))
           | inr d ↦ elim (cond-back (eqb tag 0x87) _ _ _ (d .1)) [
             | inl f ↦
-              let k = keeps-back (flagsIn at (p .bytes)) _ w (f .1) in
-              leaf s tag 0x87 _ _ (p .bytes) (f .0) (lit< tt) (ap (inValues s) (k .2)) (flags (flags-back at (k .0) (p .bytes) (k .1)))
+                let k = keeps-back (flagsIn at (p .bytes)) _ w (f .1) in
+                leaf s tag 0x87 _ _ (p .bytes) (f .0) (lit< tt) (ap (inValues s) (k .2)) (flags (flags-back at (k .0) (p .bytes) (k .1)))
             | inr f ↦ elim (cond-back (eqb tag 0x88) _ _ _ (f .1)) [
               | inl g ↦
-                let k = keeps-back (bytesIn 64 1 at (p .bytes)) _ w (g .1) in
-                leaf s tag 0x88 _ _ (p .bytes) (g .0) (lit< tt) (ap (inValues s) (k .2)) (raw (bytes-back 64 1 at (k .0) (p .bytes) (k .1)))
+                  let k = keeps-back (bytesIn 64 1 at (p .bytes)) _ w (g .1) in
+                  leaf s tag 0x88 _ _ (p .bytes) (g .0) (lit< tt) (ap (inValues s) (k .2)) (raw (bytes-back 64 1 at (k .0) (p .bytes) (k .1)))
               | inr g ↦ absurd (grind arith)
             ]
           ]
@@ -136,24 +136,24 @@ environment-back : (s : Claim) (w : Environment) (tag at : ℕ) (c : List ℕ) �
 environment-back s w tag at c e =
     elim (cond-back (eqb tag 0x80) _ _ _ e) [
       | inl a ↦
-        let k = keeps-back (bytesIn 32 1 at c) _ w (a .1) in
-        leaf s tag 0x80 _ _ c (a .0) (lit< tt) (ap (inEnvironment s) (k .2)) (vendor (bytes-back 32 1 at (k .0) c (k .1)))
+          let k = keeps-back (bytesIn 32 1 at c) _ w (a .1) in
+          leaf s tag 0x80 _ _ c (a .0) (lit< tt) (ap (inEnvironment s) (k .2)) (vendor (bytes-back 32 1 at (k .0) c (k .1)))
       | inr a ↦ elim (cond-back (eqb tag 0x81) _ _ _ (a .1)) [
         | inl b ↦
-          let k = keeps-back (bytesIn 32 1 at c) _ w (b .1) in
-          leaf s tag 0x81 _ _ c (b .0) (lit< tt) (ap (inEnvironment s) (k .2)) (model (bytes-back 32 1 at (k .0) c (k .1)))
+            let k = keeps-back (bytesIn 32 1 at c) _ w (b .1) in
+            leaf s tag 0x81 _ _ c (b .0) (lit< tt) (ap (inEnvironment s) (k .2)) (model (bytes-back 32 1 at (k .0) c (k .1)))
         | inr b ↦ elim (cond-back (eqb tag 0x84) _ _ _ (b .1)) [
           | inl d ↦
-            let k = keeps-back (integerIn 65535 at c) _ w (d .1) in
-            leaf s tag 0x84 _ _ c (d .0) (lit< tt) (ap (inEnvironment s) (k .2)) (layer (integer-back 65535 at (k .0) c (k .1)))
+              let k = keeps-back (integerIn 65535 at c) _ w (d .1) in
+              leaf s tag 0x84 _ _ c (d .0) (lit< tt) (ap (inEnvironment s) (k .2)) (layer (integer-back 65535 at (k .0) c (k .1)))
           | inr d ↦ elim (cond-back (eqb tag 0x85) _ _ _ (d .1)) [
             | inl f ↦
-              let k = keeps-back (integerIn 65535 at c) _ w (f .1) in
-              leaf s tag 0x85 _ _ c (f .0) (lit< tt) (ap (inEnvironment s) (k .2)) (index (integer-back 65535 at (k .0) c (k .1)))
+                let k = keeps-back (integerIn 65535 at c) _ w (f .1) in
+                leaf s tag 0x85 _ _ c (f .0) (lit< tt) (ap (inEnvironment s) (k .2)) (index (integer-back 65535 at (k .0) c (k .1)))
             | inr f ↦ elim (cond-back (eqb tag 0x89) _ _ _ (f .1)) [
               | inl g ↦
-                let k = keeps-back (bytesIn 32 1 at c) _ w (g .1) in
-                leaf s tag 0x89 _ _ c (g .0) (lit< tt) (ap (inEnvironment s) (k .2)) (class (bytes-back 32 1 at (k .0) c (k .1)))
+                  let k = keeps-back (bytesIn 32 1 at c) _ w (g .1) in
+                  leaf s tag 0x89 _ _ c (g .0) (lit< tt) (ap (inEnvironment s) (k .2)) (class (bytes-back 32 1 at (k .0) c (k .1)))
               | inr g ↦ absurd (grind arith)
             ]
           ]

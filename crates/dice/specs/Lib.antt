@@ -6,3 +6,4 @@ pub mod Extensions
 pub mod Messages
 pub mod Layout
 pub mod Laws
+pub mod Examples

@@ -1,4 +1,5 @@
 mod digests;
+pub mod examples;
 mod extensions;
 mod fields;
 mod flags;

@@ -18,7 +18,7 @@ use Rattle.std.proofs.shelf.Decimals.{digits-decimal, value-decimal, decimal-so
 use Rattle.std.proofs.shelf.Numerals.{Numerals, numerals-by-fold}
 use Rattle.std.proofs.shelf.Tests.{ne-eqb, and-parts, cond-both}
 use Rattle.std.proofs.shelf.Ways.{tells}
-use Rattle.script.specs.Commands.{Request, readSpdm, readSpdmFrom, commandOf, lineOf, Sayable}
+use Rattle.script.specs.Commands.{Request, readSpdm, readDice, readSpdmFrom, readDiceFrom, commandOf, lineOf, Sayable}
 use Rattle.script.specs.Complaints.{Heard, then}
 use Rattle.script.specs.Hex.{hexDigit, hexPair, hexText}
 use Rattle.script.specs.Numbers.{valueAfter, numberOf}
@@ -71,6 +71,9 @@ spdm-back : (class message : List ℕ) (n : ℕ) → Sayable (readSpdm class n m
     → readSpdmFrom (hexText class ∷ decimal n ∷ hexText message ∷ []) ≡ Ok (readSpdm class n message)
 spdm-back class message n can = rw (hex-back class (can .0), number-back n (can .1), hex-back message (can .2))
 
+dice-back : (message : List ℕ) → Sayable (readDice message) → readDiceFrom (hexText message ∷ []) ≡ Ok (readDice message)
+dice-back message can = rw (hex-back message can)
+
 -- the line of a request is read as that request
 pub line-back : (asked : Request) → Sayable asked → commandOf (lineOf asked) ≡ Ok (Some asked)
 line-back (readSpdm class n message) can =
@@ -78,3 +81,6 @@ line-back (readSpdm class n message) can =
     = (hex-solid class, (digits-solid (decimal n) (digits-decimal own n (can .1)), (hex-solid message, tt))) in
     ap (λ (ws : List (List ℕ)). then (readSpdmFrom ws) (λ asked. Ok (Some asked))) (words-spaced (hexText class) (decimal n ∷ hexText message ∷ []) solid)
     ∙ ap (λ (h : Heard Request). then h (λ asked. Ok (Some asked))) (spdm-back class message n can)
+line-back (readDice message) can =
+    ap (λ (ws : List (List ℕ)). then (readDiceFrom ws) (λ asked. Ok (Some asked))) (words-spaced (hexText message) [] (hex-solid message, tt))
+    ∙ ap (λ (h : Heard Request). then h (λ asked. Ok (Some asked))) (dice-back message can)

@@ -20,6 +20,8 @@ use Rattle.script.specs.declared.complaints.Complaint.the-variants.{UnknownCom
 pub data Request : Type 0 where
   -- the class, the algorithm and the message
   readSpdm : List ℕ → ℕ → List ℕ → Request
+  -- the message
+  readDice : List ℕ → Request
 
 -- The complaint is the first that is found: the first two words are those of no command; then, word by word from the left, a word is
 -- missing or cannot be read; then there is a word too many.
@@ -50,12 +52,22 @@ readSpdmFrom ws =
     then (hexFrom (algorithm .1)) (λ message.
     ended (message .1) (readSpdm (class .0) (algorithm .0) (message .0)))))
 
+-- MESSAGE
+abbrev pub readDiceFrom : List (List ℕ) → Heard Request
+readDiceFrom ws = then (hexFrom ws) (λ message. ended (message .1) (readDice (message .0)))
+
+-- a `read` command: its second word names the format
+abbrev pub readFrom : List ℕ → List (List ℕ) → Heard Request
+readFrom noun ws =
+    cond (sameBytes noun (codes "spdm")) (readSpdmFrom ws)
+    (cond (sameBytes noun (codes "dice")) (readDiceFrom ws)
+    (Err UnknownCommand))
+
 -- the first two words name the command
 abbrev pub commandFrom : List (List ℕ) → Heard Request
 commandFrom [] = Err UnknownCommand
 commandFrom (verb ∷ []) = Err UnknownCommand
-commandFrom (verb ∷ noun ∷ ws) =
-    cond (sameBytes verb (codes "read") && sameBytes noun (codes "spdm")) (readSpdmFrom ws) (Err UnknownCommand)
+commandFrom (verb ∷ noun ∷ ws) = cond (sameBytes verb (codes "read")) (readFrom noun ws) (Err UnknownCommand)
 
 -- nothing but spaces
 abbrev pub blank : List ℕ → Bool
@@ -79,7 +91,9 @@ commandOf line = cond (skipped line) (Ok None) (then (commandFrom (wordsOf line)
 abbrev pub lineOf : Request → List ℕ
 lineOf (readSpdm class algorithm message) =
     spaced (codes "read" ∷ codes "spdm" ∷ hexText class ∷ decimal algorithm ∷ hexText message ∷ [])
+lineOf (readDice message) = spaced (codes "read" ∷ codes "dice" ∷ hexText message ∷ [])
 
 -- a request of bytes and of a number of 64 bits
 abbrev pub Sayable : Request → Type 0
 Sayable (readSpdm class algorithm message) = All (λ b. b < 256) class × (algorithm < 2 ^ 64) × All (λ b. b < 256) message
+Sayable (readDice message) = All (λ b. b < 256) message

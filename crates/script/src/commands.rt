@@ -2,7 +2,7 @@ ghost use mathlib.Core.Path.{_≡_};
 ghost use Rattle.std.specs.Options.{mapped};
 ghost use Rattle.std.specs.declared.option.Option.the-variants.{Some};
 ghost use Rattle.std.specs.declared.result.Result.the-variants.{Ok};
-ghost use Rattle.script.specs.Commands.{Request, wordFrom, hexFrom, numberFrom, readSpdmFrom, commandFrom, blank, remark, skipped, commandOf, lineOf, Sayable};
+ghost use Rattle.script.specs.Commands.{Request, wordFrom, hexFrom, numberFrom, readSpdmFrom, readDiceFrom, readFrom, commandFrom, blank, remark, skipped, commandOf, lineOf, Sayable};
 ghost use Rattle.script.specs.Complaints.{Tells};
 ghost use Rattle.script.specs.Rests.{restWords, splitParts, bytesParts, numberParts};
 ghost use Rattle.script.specs.Spoken.{spoken};
@@ -63,6 +63,30 @@ fn read_spdm(heap: Global, rest: Option<&[u8]>) -> Result<Command, Complaint>
     })
 }
 
+// The rest of a `read dice` command: MESSAGE.
+fn read_dice(heap: Global, rest: Option<&[u8]>) -> Result<Command, Complaint>
+    ensures { λ r. ⌜ Tells spoken r (readDiceFrom (restWords (rest .entry))) ⌝ }
+{
+    let (message, rest) = take_hex(heap, rest)?;
+    if rest.is_some() {
+        return Err(Complaint::ExtraWord);
+    }
+    Ok(Command::ReadDice { message })
+}
+
+// The rest of a `read` command, after the word that names the format.
+fn read_format(heap: Global, noun: &[u8], rest: Option<&[u8]>) -> Result<Command, Complaint>
+    ensures { λ r. ⌜ Tells spoken r (readFrom (now (noun .entry)) (restWords (rest .entry))) ⌝ }
+{
+    if is_word(noun, b"spdm") {
+        return read_spdm(heap, rest);
+    }
+    if is_word(noun, b"dice") {
+        return read_dice(heap, rest);
+    }
+    Err(Complaint::UnknownCommand)
+}
+
 // The command of a line that has one: its first two words name it.
 fn read_command(heap: Global, line: &[u8]) -> Result<Command, Complaint>
     ensures { λ r. ⌜ Tells spoken r (commandFrom (wordsOf (now (line .entry)))) ⌝ }
@@ -72,8 +96,8 @@ fn read_command(heap: Global, line: &[u8]) -> Result<Command, Complaint>
         return Err(Complaint::UnknownCommand);
     };
     let noun = split_word(rest);
-    if is_word(verb.word, b"read") && is_word(noun.word, b"spdm") {
-        return read_spdm(heap, noun.rest);
+    if is_word(verb.word, b"read") {
+        return read_format(heap, noun.word, noun.rest);
     }
     Err(Complaint::UnknownCommand)
 }
@@ -144,10 +168,14 @@ mod tests {
             class,
             algorithm,
             message,
-        } = command;
+        } = command
+        else {
+            return Err(Fail::new("another command"));
+        };
         check(is_word(class.as_slice(), b"\x0a\xff"))?;
         check_eq(algorithm, 7)?;
-        check(message.is_empty())
+        check(message.is_empty())?;
+        check(parse(rt.alloc(), b"read dice 00")?.is_some())
     }
 
     #[test]

@@ -14,4 +14,8 @@ pub enum Command {
         algorithm: u64,
         message: Vec<u8>,
     },
+    // `read dice MESSAGE`: read a DICE boot record.
+    ReadDice {
+        message: Vec<u8>,
+    },
 }

@@ -6,6 +6,8 @@ ghost use Rattle.script.specs.Spoken.{spoken};
 ghost use Rattle.script.specs.Texts.{Appends};
 ghost use Rattle.session.specs.Answers.{answerOf, lineAnswer};
 use crate::readings::push_reading;
+use dice::kinds::Dice;
+use dice::reader::DiceFormat;
 use script::commands::parse;
 use script::complaints::Complaint;
 use script::complaints::ComplaintFromAlloc;
@@ -29,6 +31,7 @@ pub fn push_answer(out: &mut String, command: &Command) -> Result<(), AllocError
             Ok(format) => push_reading(out, &format, message.as_slice()),
             Err(refusal) => push_refusal(out, refusal),
         },
+        Command::ReadDice { message } => push_reading(out, &Dice, message.as_slice()),
     }
 }
 
