@@ -7,7 +7,7 @@ use crate::kinds::Head;
 use crate::kinds::Size;
 
 // What follows the first n bytes.
-pub fn tail(bytes: &[u8], n: usize) -> &[u8]
+pub(crate) fn tail(bytes: &[u8], n: usize) -> &[u8]
     ensures value { λ r. ⌜ now r ≡ drop n (now (bytes .entry)) ⌝ }
     ensures len { λ r. ⌜ length (now r) ≡ length (now (bytes .entry)) - n ⌝ }
 {
@@ -18,7 +18,7 @@ pub fn tail(bytes: &[u8], n: usize) -> &[u8]
 }
 
 // The number that at most eight bytes write, high byte first.
-pub fn big_endian(bytes: &[u8]) -> u64
+pub(crate) fn big_endian(bytes: &[u8]) -> u64
     requires { ⌜ length (now bytes) ≤ 8 ⌝ }
     ensures { λ r. ⌜ r ≡ big (now (bytes .entry)) ⌝ }
 {
@@ -109,7 +109,7 @@ fn size_of(bytes: &[u8]) -> Option<Size>
 }
 
 // The item at the beginning of some bytes, where a whole one stands there.
-pub fn head_of(bytes: &[u8]) -> Option<Head>
+pub(crate) fn head_of(bytes: &[u8]) -> Option<Head>
     ensures value { λ r. ⌜ r ≡ headOf (now (bytes .entry)) ⌝ }
     ensures within { λ r. ⌜ found r (λ h. (0 < h .header) × (h .header + h .size ≤ length (now (bytes .entry)))) ⌝ }
 {

@@ -68,7 +68,7 @@ pub impl Elements for Gathered as GatheredElements {
 }
 
 // The digests of the field at a place.
-pub fn read_digests(at: usize, part: Part<'_>) -> Result<Digests, Refusal>
+pub(crate) fn read_digests(at: usize, part: Part<'_>) -> Result<Digests, Refusal>
     ensures { λ r. ⌜ r ≡ digestsIn at (piece (part .entry)) ⌝ }
 {
     if part.is_empty() {

@@ -151,7 +151,7 @@ pub impl Elements for Fields as FieldsElements {
 }
 
 // DiceTcbInfo, which fills the OCTET STRING at a place.
-pub fn read_info(at: usize, part: Part<'_>) -> Result<Claim, Refusal>
+pub(crate) fn read_info(at: usize, part: Part<'_>) -> Result<Claim, Refusal>
     ensures { λ r. ⌜ r ≡ infoIn at (piece (part .entry)) ⌝ }
 {
     if part.is_empty() {

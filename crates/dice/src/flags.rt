@@ -68,7 +68,7 @@ fn is_padded(content: &[u8]) -> bool
 }
 
 // A count of unused bits, then 0 to 4 bytes of bits.
-pub fn read_flags(content: &[u8], at: usize) -> Result<Flags, Refusal>
+pub(crate) fn read_flags(content: &[u8], at: usize) -> Result<Flags, Refusal>
     ensures { λ r. ⌜ r ≡ flagsIn at (now (content .entry)) ⌝ }
 {
     if content.is_empty() {

@@ -12,7 +12,7 @@ fn is_named(name: &[u8], known: &[u8]) -> bool
 }
 
 // What an extension of an object identifier holds.
-pub fn extension_of(name: &[u8]) -> Extension
+pub(crate) fn extension_of(name: &[u8]) -> Extension
     ensures { λ r. ⌜ r ≡ extensionOf (now (name .entry)) ⌝ }
 {
     if is_named(name, b"\x67\x81\x05\x05\x04\x01") {
@@ -25,7 +25,7 @@ pub fn extension_of(name: &[u8]) -> Extension
 }
 
 // The hash algorithm of an object identifier.
-pub fn algorithm_named(name: &[u8]) -> Option<Algorithm>
+pub(crate) fn algorithm_named(name: &[u8]) -> Option<Algorithm>
     ensures { λ r. ⌜ r ≡ algorithmNamed (now (name .entry)) ⌝ }
 {
     if is_named(name, b"\x60\x86\x48\x01\x65\x03\x04\x02\x01") {
