@@ -1,4 +1,4 @@
-use Prim.Native.Nat.{ℕ, _%_, _<_}
+use Prim.Native.Nat.{ℕ, zero, suc, _%_, _<_}
 use mathlib.Core.Path.{_≡_, refl, sym, ap, subst, _∙_}
 use mathlib.Core.List.{List, [], _∷_, _++_, append-assoc}
 use mathlib.Core.Bool.{Bool, true}
@@ -14,7 +14,7 @@ use Rattle.der.specs.Encodes.{Coded, Chain, done, more}
 use Rattle.der.proofs.Encoded.{chain-forth}
 use Rattle.dice.specs.Fields.{fieldAt, noFields}
 use Rattle.dice.specs.Layout.{Says, vendor, model, version, svn, layer, index, digests, flags, raw, class, FieldOf, fieldOf, Writes}
-use Rattle.dice.specs.Laws.{fieldsSay, Extends, extends, Others, Adding}
+use Rattle.dice.specs.Laws.{fieldsSay, Extends, extends, Others, Adding, Flags-by-sense}
 use Rattle.dice.specs.declared.kinds.Fields.{Fields}
 use Rattle.dice.proofs.Spoken.{field-forth}
 
@@ -103,3 +103,10 @@ adding k _ _ _ (extends {r = r} {w = w} {t = t} {xs = xs} {c = c} {f = f} {ys = 
         beside .2 .others,
       ),
     )
+
+pub flags-by-sense : Flags-by-sense
+flags-by-sense c zero h = refl
+flags-by-sense c (suc zero) h = refl
+flags-by-sense c (suc (suc zero)) h = refl
+flags-by-sense c (suc (suc (suc zero))) h = refl
+flags-by-sense c (suc (suc (suc (suc k)))) h = absurd (omega arith)

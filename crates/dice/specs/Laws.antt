@@ -1,14 +1,16 @@
-use Prim.Native.Nat.{ℕ, _%_}
+use Prim.Native.Nat.{ℕ, _%_, _<_}
 use mathlib.Core.Path.{_≡_}
 use mathlib.Core.List.{List, [], _∷_, _++_}
 use mathlib.Core.Bool.{true}
-use Rattle.std.specs.declared.option.Option.the-variants.{Some}
+use lib.ListN.{getD}
+use Rattle.std.specs.declared.option.Option.the-variants.{Some, None}
 use Rattle.std.specs.declared.result.Result.the-variants.{Ok}
 use Rattle.refusals.specs.Reading.{Outcome, keeps, above}
 use Rattle.claims.specs.declared.kinds.Claim.{Claim}
 use Rattle.der.specs.Encodes.{Coded, Chain}
 use Rattle.der.specs.Holders.{elementsIn}
 use Rattle.der.specs.Parts.{wholeOf}
+use Rattle.dice.specs.Flags.{flagOf, flagsOf}
 use Rattle.dice.specs.Fields.{fieldAt, noFields}
 use Rattle.dice.specs.Layout.{Says, FieldOf, Writes, Carries}
 use Rattle.dice.specs.Messages.{reading}
@@ -49,3 +51,7 @@ pub record Others (k : ℕ) (i j : Claim) : Type 0 where
 abbrev pub Adding : Type 0
 Adding = (k : ℕ) (i : Claim) (bs longer : List ℕ) → Extends k i bs longer
     → (fieldsSay bs ≡ Ok i) × ((j : Claim) × (fieldsSay longer ≡ Ok j) × Others k i j)
+
+-- a flag that is read is true exactly when its bit is as its sense says
+abbrev pub Flags-by-sense : Type 0
+Flags-by-sense = (c : List ℕ) (k : ℕ) → k < 4 → getD (flagsOf c .states) k None ≡ flagOf c k

@@ -2,7 +2,7 @@ ghost use mathlib.Core.Path.{_≡_};
 ghost use mathlib.Core.Bool.{Bool};
 ghost use Prim.Native.Nat.{ℕ};
 ghost use Rattle.evidence.specs.Readings.{counted, claimAt};
-ghost use Rattle.dice.specs.Laws.{Read-as-carried, Adding};
+ghost use Rattle.dice.specs.Laws.{Read-as-carried, Adding, Flags-by-sense};
 ghost use Rattle.dice.specs.Messages.{onInstance, messageOf, reading};
 use crate::extensions::ExtensionsElements;
 use crate::kinds::Dice;
@@ -91,6 +91,7 @@ pub impl Format for Dice as DiceFormat {
         ensures value { λ r. ⌜ r ≡ claimAt (reading (now (message .entry))) n ⌝ }
         ensures carried { λ _. ⌜ Read-as-carried (now (message .entry)) ⌝ }
         ensures adding { λ _. ⌜ Adding ⌝ }
+        ensures flags { λ _. ⌜ Flags-by-sense ⌝ }
     {
         claim_of(message, n)
     }
