@@ -23,7 +23,7 @@ use Rattle.der.specs.Contents.{shortest, integerIn}
 use Rattle.der.specs.Holders.{Element, elements, elementsIn}
 use Rattle.der.specs.Items.{shapeOf, Front, itemOf}
 use Rattle.der.specs.Encodes.{Sized, inside, after, Coded, coded, Chain, done, more, Number, number}
-use Rattle.der.proofs.Outcomes.{onward-back, need-back}
+use Rattle.refusals.proofs.Outcomes.{onward-back, need-back, cond-back, some-same, mapped-back, ok-same}
 use Rattle.der.proofs.Encoded.{size-first}
 
 -- what is read was encoded
@@ -35,13 +35,6 @@ pub record SizeIs (m : List ℕ) (s : Size) : Type 0 where
   pub sized : Sized (s .size) bytes
   pub whole : m ≡ bytes ++ rest
   pub long : length bytes ≡ s .width
-
-pub cond-back : {A : Type 0} (b : Bool) (x y z : A) → cond b x y ≡ z → ((b ≡ true) × (x ≡ z)) ⊎ ((b ≡ false) × (y ≡ z))
-cond-back true x y z e = inl (refl, e)
-cond-back false x y z e = inr (refl, e)
-
-pub some-same : {A : Type 0} (x y : A) → _≡_ {A = Option A} (Some x) (Some y) → x ≡ y
-some-same x y e = grind arith
 
 short-back : (x : ℕ) (xs : List ℕ) (s : Size) → x < 128 → _≡_ {A = Option Size} (Some (record { width = 1; size = x })) (Some s) → SizeIs (x ∷ xs) s
 short-back x xs s l e =
@@ -88,10 +81,6 @@ sized-back (x ∷ xs) s e =
 pub with-back : {A B : Type 0} (o : Option A) (f : A → Option B) (y : B) → with o f ≡ Some y → (x : A) × (o ≡ Some x) × (f x ≡ Some y)
 with-back None f y e = absurd (grind arith)
 with-back (Some x) f y e = (x, refl, e)
-
-pub mapped-back : {A B : Type 0} (f : A → B) (o : Option A) (y : B) → mapped f o ≡ Some y → (x : A) × (o ≡ Some x) × (f x ≡ y)
-mapped-back f None y e = absurd (grind arith)
-mapped-back f (Some x) y e = (x, refl, grind arith)
 
 -- a tag has a byte, and just one where it is none of several
 tag-back : (m : List ℕ) (w : ℕ) → tagWidth m ≡ Some w → (1 ≤ w) × (getD m 0 0 % 32 < 31 → w ≡ 1)
@@ -208,9 +197,6 @@ pub record Begun {S : Type 0} (One : S → S → List ℕ → Type 0) (s : S) (p
   pub whole : p .bytes ≡ bytes ++ rest
   pub long : length bytes ≡ x .size
   pub some : 0 < length bytes
-
-pub ok-same : {A : Type 0} (x y : A) → _≡_ {A = Outcome A} (Ok x) (Ok y) → x ≡ y
-ok-same x y e = grind arith
 
 positive : (n : ℕ) → (n ≡ 0 → ⊥) → 0 < n
 positive zero f = absurd (f refl)

@@ -21,7 +21,7 @@ use Rattle.der.specs.Holders.{Element, elements, elementsIn}
 use Rattle.der.specs.Items.{shapeOf, itemOf}
 use Rattle.der.specs.Encodes.{Sized, inside, after, Coded, coded, Chain, done, more, Number, number}
 use Rattle.der.proofs.Steps.{elements-more, elements-none}
-use Rattle.der.proofs.Outcomes.{need-true}
+use Rattle.refusals.proofs.Outcomes.{need-true}
 
 -- what was encoded is read
 

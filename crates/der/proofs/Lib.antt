@@ -1,7 +1,6 @@
 pub mod Cuts
 pub mod Runs
 pub mod Steps
-pub mod Outcomes
 pub mod Encoded
 pub mod Back
 pub mod Sound

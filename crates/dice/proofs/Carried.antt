@@ -28,9 +28,9 @@ use Rattle.der.specs.Items.{Shape, boolean, octets, identifier, sequence, field
 use Rattle.der.specs.Kinds.{isBoolean, isOctets, isIdentifier, isSequence, Holder, itemAt, some, none, truth, pastBoolean, afterBoolean}
 use Rattle.der.specs.Parts.{Piece, wholeOf}
 use Rattle.der.specs.declared.kinds.Read.{Read}
-use Rattle.der.proofs.Back.{cond-back, ok-same, some-same, Begun, chain-back}
+use Rattle.der.proofs.Back.{Begun, chain-back}
 use Rattle.der.proofs.Encoded.{item-forth, chain-forth}
-use Rattle.der.proofs.Outcomes.{onward-back, keeps-back, need-back, orRefuse-back, need-true}
+use Rattle.refusals.proofs.Outcomes.{onward-back, keeps-back, need-back, orRefuse-back, need-true, cond-back, ok-same, some-same}
 use Rattle.dice.specs.Names.{tcbInfo, ueid, extensionOf}
 use Rattle.dice.specs.Fields.{infoIn}
 use Rattle.dice.specs.Extensions.{ueidIn, heldBy, again, extensionValue, extensionParts, extensionAt, noExtensions}

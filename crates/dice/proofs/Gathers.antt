@@ -20,9 +20,9 @@ use Rattle.der.specs.Items.{shapeOf}
 use Rattle.der.specs.Kinds.{Holder, isOctets, isIdentifier, isSequence, itemAt, some, none, before}
 use Rattle.der.specs.Parts.{Piece}
 use Rattle.der.specs.declared.kinds.Read.{Read}
-use Rattle.der.proofs.Back.{Begun, ok-same, chain-back}
+use Rattle.der.proofs.Back.{Begun, chain-back}
 use Rattle.der.proofs.Encoded.{chain-forth}
-use Rattle.der.proofs.Outcomes.{onward-back, keeps-back, need-back, orRefuse-back, need-true}
+use Rattle.refusals.proofs.Outcomes.{onward-back, keeps-back, need-back, orRefuse-back, need-true, ok-same}
 use Rattle.dice.specs.Names.{algorithmNamed}
 use Rattle.dice.specs.Digests.{digestValue, digestParts, digestAt, digestsIn}
 use Rattle.dice.specs.Layout.{DigestOf, digest}

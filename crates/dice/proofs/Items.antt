@@ -14,8 +14,8 @@ use Rattle.der.specs.Items.{Shape, Front, shapeOf, itemOf}
 use Rattle.der.specs.Kinds.{Holder, itemAt, some, none, before}
 use Rattle.der.specs.Parts.{Piece}
 use Rattle.der.proofs.Encoded.{Found, item-forth}
-use Rattle.der.proofs.Back.{ItemIs, item-back, ok-same}
-use Rattle.der.proofs.Outcomes.{orRefuse-back}
+use Rattle.der.proofs.Back.{ItemIs, item-back}
+use Rattle.refusals.proofs.Outcomes.{orRefuse-back, ok-same}
 
 -- an item of a kind was written, and is found with its content
 pub record Seen (kind : Shape → Option Piece) (c bs rest : List ℕ) (at : ℕ) : Type 0 where

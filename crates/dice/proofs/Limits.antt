@@ -37,7 +37,7 @@ use Rattle.der.specs.Items.{Shape, Front, itemOf}
 use Rattle.der.specs.Kinds.{isOctets, isIdentifier, isSequence, isBoolean, isField, Holder, itemAt, some, none, before, truth, pastBoolean, afterBoolean}
 use Rattle.der.specs.Holders.{elementsIn}
 use Rattle.der.specs.declared.kinds.Read.{Read}
-use Rattle.der.proofs.Back.{mapped-back}
+use Rattle.refusals.proofs.Outcomes.{mapped-back}
 use Rattle.der.proofs.Sound.{OfReader, Sound, sound-onward, sound-keeps, sound-need, sound-orRefuse, sound-cond, sound-elements}
 use Rattle.evidence.specs.Readings.{Reading, KeepsLimits, RefusesAsReader}
 use Rattle.dice.specs.Names.{algorithmNamed, extensionOf}

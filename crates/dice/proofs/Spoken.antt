@@ -30,9 +30,9 @@ use Rattle.der.specs.Kinds.{isField, isSequence, itemAt, some, none, before}
 use Rattle.der.specs.Parts.{Piece}
 use Rattle.der.specs.Holders.{elementsIn}
 use Rattle.der.specs.declared.kinds.Read.{Read}
-use Rattle.der.proofs.Back.{Begun, ItemIs, item-back, ok-same, cond-back, chain-back, integer-back}
+use Rattle.der.proofs.Back.{Begun, ItemIs, item-back, chain-back, integer-back}
 use Rattle.der.proofs.Encoded.{item-forth, chain-forth, integer-forth}
-use Rattle.der.proofs.Outcomes.{onward-back, keeps-back, need-back, orRefuse-back, need-true}
+use Rattle.refusals.proofs.Outcomes.{onward-back, keeps-back, need-back, orRefuse-back, need-true, ok-same, cond-back}
 use Rattle.dice.specs.Flags.{flagsOf, padded, flagsIn}
 use Rattle.dice.specs.Digests.{digestsIn}
 use Rattle.dice.specs.Fields.{inEnvironment, inValues, formed, environmentField, valueField, ofValues, fieldSays, fieldAt, noFields, infoIn}

@@ -10,6 +10,7 @@ use Rattle.std.specs.Options.{mapped}
 use Rattle.std.proofs.shelf.Tests.{and-from, and-parts, and-left, cond-true, cond-false, eq-eqb, eqb-true, le-leb, leb-true, lt-leb}
 use Rattle.std.specs.declared.option.Option.{Option}
 use Rattle.std.specs.declared.option.Option.the-variants.{Some, None}
+use Rattle.refusals.proofs.Outcomes.{cond-back, mapped-back}
 use Rattle.claims.proofs.Kept.{some-if, kept-from, kept-within, holds-kept}
 use Rattle.claims.specs.Bytes.{bounded, keptFrom}
 use Rattle.claims.specs.Digests.{digestOf}
@@ -25,14 +26,6 @@ use Rattle.spdm.specs.Blocks.{Block, little}
 use Rattle.claims.specs.Values.{noValues, withSvn, withDigests, withRaw}
 use Rattle.spdm.specs.Claims.{svnOf, valuesOf, claimed, claimOf}
 use Rattle.spdm.specs.Layout.{Digest, sha256, sha384, sha512, Says, digest, raw, svn, Makes, makes}
-
-cond-back : {A : Type 0} (b : Bool) (x y z : A) → cond b x y ≡ z → ((b ≡ true) × (x ≡ z)) ⊎ (y ≡ z)
-cond-back true x y z e = inl (refl, e)
-cond-back false x y z e = inr e
-
-mapped-back : {A B : Type 0} (f : A → B) (o : Option A) (y : B) → mapped f o ≡ Some y → (x : A) × (o ≡ Some x) × (f x ≡ y)
-mapped-back f None y e = absurd (grind arith)
-mapped-back f (Some x) y e = (x, refl, grind arith)
 
 -- bytes of just one length that were kept
 exactly : (N : ℕ) (v : List ℕ) (d : Bytes N) → keptFrom N N v ≡ Some d → (bounded N v ≡ d) × (length v ≡ N)
@@ -88,11 +81,11 @@ says-back algorithm kind v vs e =
           let p = mapped-back (withDigests noValues) (digestOf algorithm v) vs (a .1) in
           let P : Values → Type 0 = λ x. Says algorithm kind v x in
           subst P (p .2) (digest (leb-true _ _ (a .0)) (digest-back algorithm v (p .0) (p .1)))
-      | inr a ↦ elim (cond-back (leb 128 kind && leb kind 132) _ _ _ a) [
+      | inr a ↦ elim (cond-back (leb 128 kind && leb kind 132) _ _ _ (a .1)) [
         | inl b ↦
             let t = and-parts (leb 128 kind) (leb kind 132) (b .0) in
             raw-back algorithm kind v vs (leb-true _ _ (t .0)) (leb-true _ _ (t .1)) (b .1)
-        | inr b ↦ elim (cond-back (eqb kind 135) _ _ _ b) [
+        | inr b ↦ elim (cond-back (eqb kind 135) _ _ _ (b .1)) [
           | inl c ↦
               let P : ℕ → Type 0 = λ k. Says algorithm k v vs in
               subst P (sym (eqb-true kind 135 (c .0))) (svn-back algorithm v vs (c .1))
