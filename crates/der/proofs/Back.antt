@@ -14,13 +14,14 @@ use Rattle.std.specs.declared.result.Result.the-variants.{Ok}
 use Rattle.claims.proofs.Kept.{some-if}
 use Rattle.der.specs.declared.kinds.Size.{Size}
 use Rattle.der.specs.declared.kinds.Head.{Head}
-use Rattle.der.specs.declared.kinds.Read.{Read}
+use Rattle.parts.specs.declared.kinds.Read.{Read}
 use Rattle.refusals.specs.Reading.{Outcome}
 use Rattle.std.specs.Options.{mapped}
-use Rattle.der.specs.Heads.{with, big, longTag, longSize, sizeOf, headOf, tagWidth}
-use Rattle.der.specs.Parts.{Piece, front, after as behind}
+use Rattle.parts.specs.Numbers.{big}
+use Rattle.der.specs.Heads.{with, longTag, longSize, sizeOf, headOf, tagWidth}
+use Rattle.parts.specs.Parts.{Piece, front, after as behind}
 use Rattle.der.specs.Contents.{shortest, integerIn}
-use Rattle.der.specs.Holders.{Element, elements, elementsIn}
+use Rattle.parts.specs.Holders.{Element, elements, elementsIn}
 use Rattle.der.specs.Items.{shapeOf, Front, itemOf}
 use Rattle.der.specs.Encodes.{Sized, inside, after, Coded, coded, Chain, done, more, Number, number}
 use Rattle.refusals.proofs.Outcomes.{onward-back, need-back, cond-back, some-same, mapped-back, ok-same}

@@ -12,15 +12,16 @@ use Rattle.std.proofs.shelf.Ways.{tells}
 use Rattle.std.specs.declared.option.Option.the-variants.{Some}
 use Rattle.std.specs.declared.result.Result.the-variants.{Ok}
 use Rattle.der.specs.declared.kinds.Head.{Head}
-use Rattle.der.specs.declared.kinds.Read.{Read}
+use Rattle.parts.specs.declared.kinds.Read.{Read}
 use Rattle.refusals.specs.Reading.{Outcome, onward}
-use Rattle.der.specs.Heads.{big, bigAfter, longSize, sizeOf, headOf, tagWidth}
-use Rattle.der.specs.Parts.{Piece, front, after as behind}
+use Rattle.parts.specs.Numbers.{big, bigAfter}
+use Rattle.der.specs.Heads.{longSize, sizeOf, headOf, tagWidth}
+use Rattle.parts.specs.Parts.{Piece, front, after as behind}
 use Rattle.der.specs.Contents.{shortest, integerIn}
-use Rattle.der.specs.Holders.{Element, elements, elementsIn}
+use Rattle.parts.specs.Holders.{Element, elements, elementsIn}
 use Rattle.der.specs.Items.{shapeOf, itemOf}
 use Rattle.der.specs.Encodes.{Sized, inside, after, Coded, coded, Chain, done, more, Number, number}
-use Rattle.der.proofs.Steps.{elements-more, elements-none}
+use Rattle.parts.proofs.Steps.{elements-more, elements-none}
 use Rattle.refusals.proofs.Outcomes.{need-true}
 
 -- what was encoded is read

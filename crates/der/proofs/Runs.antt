@@ -10,11 +10,7 @@ use Rattle.std.proofs.shelf.Lists.{at-drop-more, at-drop-all}
 use Rattle.std.proofs.shelf.Tests.{cond-true, cond-false, lt-ltb, le-ltb}
 use Rattle.std.specs.declared.option.Option.{Option}
 use Rattle.std.specs.declared.option.Option.the-variants.{Some, None}
-use Rattle.der.specs.Heads.{bigAfter, run}
-
--- one more byte of a number
-pub big-more : (xs : List ℕ) (i n : ℕ) → i < length xs → bigAfter n (drop i xs) ≡ bigAfter (n * 256 + getD xs i 0) (drop (i + 1) xs)
-big-more xs i n h = at-drop-more (bigAfter n) xs i 0 h
+use Rattle.der.specs.Heads.{run}
 
 pub run-none : (xs : List ℕ) → run xs ≡ mapped (λ n. 0 + n) (run xs)
 run-none xs = same (run xs)

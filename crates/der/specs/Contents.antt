@@ -8,7 +8,7 @@ use Rattle.refusals.specs.Reading.{Outcome, need, orRefuse}
 use Rattle.refusals.specs.declared.Refusal.the-variants.{Malformed, OutOfLimits}
 use Rattle.claims.specs.Bytes.{keptFrom}
 use Rattle.claims.specs.declared.kinds.Bytes.{Bytes}
-use Rattle.der.specs.Heads.{big}
+use Rattle.parts.specs.Numbers.{big}
 
 -- a content of `least` to N bytes, of the item at a place
 abbrev pub bytesIn : (N : ℕ) → ℕ → ℕ → List ℕ → Outcome (Bytes N)

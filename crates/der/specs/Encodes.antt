@@ -3,7 +3,7 @@ use mathlib.Core.Path.{_≡_}
 use mathlib.Core.List.{List, [], _∷_, _++_}
 use mathlib.Core.Bool.{true}
 use lib.ListN.{length, getD}
-use Rattle.der.specs.Heads.{big}
+use Rattle.parts.specs.Numbers.{big}
 use Rattle.der.specs.Contents.{shortest}
 
 -- the bytes of a length: itself, or behind a byte that says in how many, high byte first, none to spare

@@ -6,6 +6,7 @@ use lib.ListN.{length, take, drop, getD}
 use Rattle.std.specs.Options.{mapped}
 use Rattle.std.specs.declared.option.Option.{Option}
 use Rattle.std.specs.declared.option.Option.the-variants.{Some, None}
+use Rattle.parts.specs.Numbers.{big}
 use Rattle.der.specs.declared.kinds.Head.{Head}
 use Rattle.der.specs.declared.kinds.Size.{Size}
 
@@ -13,14 +14,6 @@ use Rattle.der.specs.declared.kinds.Size.{Size}
 abbrev pub with : {A B : Type 0} → Option A → (A → Option B) → Option B
 with None f = None
 with (Some x) f = f x
-
--- the number that bytes write after those of n, high byte first
-abbrev pub bigAfter : ℕ → List ℕ → ℕ
-bigAfter n [] = n
-bigAfter n (x ∷ xs) = bigAfter (n * 256 + x) xs
-
-abbrev pub big : List ℕ → ℕ
-big xs = bigAfter 0 xs
 
 -- how many bytes there are up to the first whose top bit is clear
 abbrev pub run : List ℕ → Option ℕ

@@ -10,7 +10,7 @@ use Rattle.der.specs.declared.kinds.Item.{Item}
 use Rattle.der.specs.declared.kinds.Item.the-variants.{Boolean, Octets, Identifier, Sequence, Field}
 use Rattle.der.specs.declared.kinds.Taken.{Taken}
 use Rattle.der.specs.Heads.{headOf}
-use Rattle.der.specs.Parts.{Piece, piece, after, front}
+use Rattle.parts.specs.Parts.{Piece, piece, after, front}
 
 -- an item, by its kind, with its content; any other is known by its tag
 pub data Shape : Type 0 where

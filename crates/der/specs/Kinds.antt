@@ -10,7 +10,7 @@ use Rattle.refusals.specs.Reading.{Outcome, onward, need, orRefuse}
 use Rattle.refusals.specs.declared.Refusal.the-variants.{Malformed, OutOfLimits}
 use Rattle.der.specs.declared.kinds.Held.{Held}
 use Rattle.der.specs.Items.{Shape, boolean, octets, identifier, sequence, field, itemOf}
-use Rattle.der.specs.Parts.{Piece, piece}
+use Rattle.parts.specs.Parts.{Piece, piece}
 
 -- the content, if the item is of a kind
 
@@ -64,17 +64,6 @@ itemAt kind p =
     orRefuse (itemOf p) (Malformed (p .at)) (λ f.
     orRefuse (kind (f .item)) (Malformed (p .at)) (λ c.
     Ok (record { content = c; rest = f .rest })))
-
--- there are bytes, and there are none
-abbrev pub some : Piece → Bool
-some p = ltb 0 (length (p .bytes))
-
-abbrev pub none : Piece → Bool
-none p = eqb (length (p .bytes)) 0
-
--- how many bytes of p stand before the rest of it
-abbrev pub before : Piece → Piece → ℕ
-before p rest = length (p .bytes) - length (rest .bytes)
 
 -- 00 or FF
 abbrev pub truth : List ℕ → Bool

@@ -3,8 +3,8 @@ ghost use Prim.Native.Nat.{ℕ, _≤_};
 ghost use lib.ListN.{length};
 ghost use Rattle.std.specs.Vec.{made};
 ghost use Rattle.der.specs.Contents.{bytesIn, shortest, integerIn};
-use crate::heads::big_endian;
 use claims::kinds::Bytes;
+use parts::numbers::read_big;
 use refusals::Refusal;
 
 // A content of `least` to N bytes, of the item at a place.
@@ -42,10 +42,12 @@ pub fn read_integer(content: &[u8], at: usize, most: u64) -> Result<u64, Refusal
     if !is_shortest(content) || content.is_empty() {
         return Err(Refusal::Malformed(at));
     }
-    if content[0] >= 128 || content.len() > 8 {
+    if content[0] >= 128 {
         return Err(Refusal::OutOfLimits(at));
     }
-    let number = big_endian(content);
+    let Some(number) = read_big(content) else {
+        return Err(Refusal::OutOfLimits(at));
+    };
     if number > most {
         return Err(Refusal::OutOfLimits(at));
     }

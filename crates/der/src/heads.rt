@@ -2,32 +2,11 @@ ghost use mathlib.Core.Path.{_≡_};
 ghost use Prim.Native.Nat.{ℕ, _+_, _-_, _<_, _≤_};
 ghost use lib.ListN.{length, drop};
 ghost use Rattle.std.specs.Slices.{found};
-ghost use Rattle.der.specs.Heads.{big, run, longTag, tagWidth, longSize, sizeOf, headOf};
+ghost use Rattle.der.specs.Heads.{run, longTag, tagWidth, longSize, sizeOf, headOf};
 use crate::kinds::Head;
 use crate::kinds::Size;
-
-// What follows the first n bytes.
-pub(crate) fn tail(bytes: &[u8], n: usize) -> &[u8]
-    ensures value { λ r. ⌜ now r ≡ drop n (now (bytes .entry)) ⌝ }
-    ensures len { λ r. ⌜ length (now r) ≡ length (now (bytes .entry)) - n ⌝ }
-{
-    if n > bytes.len() {
-        return b"";
-    }
-    &bytes[n..]
-}
-
-// The number that at most eight bytes write, high byte first.
-pub(crate) fn big_endian(bytes: &[u8]) -> u64
-    requires { ⌜ length (now bytes) ≤ 8 ⌝ }
-    ensures { λ r. ⌜ r ≡ big (now (bytes .entry)) ⌝ }
-{
-    let mut n: u64 = 0;
-    for b in bytes {
-        n = n * 256 + *b as u64;
-    }
-    n
-}
+use parts::numbers::read_big;
+use parts::parts::tail;
 
 // How many bytes there are up to the first whose top bit is clear.
 fn run_of(bytes: &[u8]) -> Option<usize>
@@ -81,7 +60,9 @@ fn long_size(width: usize, bytes: &[u8]) -> Option<Size>
     if width < 1 || width > 8 || width > bytes.len() || bytes[0] < 1 {
         return None;
     }
-    let size = big_endian(&bytes[0..width]);
+    let Some(size) = read_big(&bytes[0..width]) else {
+        return None;
+    };
     if size < 128 {
         return None;
     }

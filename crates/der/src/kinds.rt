@@ -1,9 +1,4 @@
-// A part of the message, with the place of its first byte: it goes from there to the end of what is lent here, the message cut off behind the part.
-#[derive(Clone, Copy)]
-pub struct Part<'a> {
-    pub(crate) message: &'a [u8],
-    pub(crate) at: usize,
-}
+use parts::kinds::Part;
 
 // The tag of an item by its first byte, how many bytes its tag and length have, and how many its content has.
 #[derive(Clone, Copy)]
@@ -35,13 +30,6 @@ pub enum Item<'a> {
 pub struct Taken<'a> {
     pub item: Item<'a>,
     pub rest: Part<'a>,
-}
-
-// What was read, and how many bytes it has.
-#[derive(Clone, Copy)]
-pub struct Read<T> {
-    pub value: T,
-    pub size: usize,
 }
 
 // The content of an item, and what follows the item.

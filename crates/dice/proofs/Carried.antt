@@ -23,11 +23,12 @@ use Rattle.claims.specs.declared.kinds.Bytes.{Bytes}
 use Rattle.claims.specs.declared.kinds.Claim.{Claim}
 use Rattle.der.specs.Contents.{bytesIn}
 use Rattle.der.specs.Encodes.{Coded, Chain, done, more}
-use Rattle.der.specs.Holders.{elementsIn}
+use Rattle.parts.specs.Holders.{elementsIn}
 use Rattle.der.specs.Items.{Shape, boolean, octets, identifier, sequence, field, Front, itemOf}
-use Rattle.der.specs.Kinds.{isBoolean, isOctets, isIdentifier, isSequence, Holder, itemAt, some, none, truth, pastBoolean, afterBoolean}
-use Rattle.der.specs.Parts.{Piece, wholeOf}
-use Rattle.der.specs.declared.kinds.Read.{Read}
+use Rattle.parts.specs.Parts.{some, none}
+use Rattle.der.specs.Kinds.{isBoolean, isOctets, isIdentifier, isSequence, Holder, itemAt, truth, pastBoolean, afterBoolean}
+use Rattle.parts.specs.Parts.{Piece, wholeOf}
+use Rattle.parts.specs.declared.kinds.Read.{Read}
 use Rattle.der.proofs.Back.{Begun, chain-back}
 use Rattle.der.proofs.Encoded.{item-forth, chain-forth}
 use Rattle.refusals.proofs.Outcomes.{onward-back, keeps-back, need-back, orRefuse-back, need-true, cond-back, ok-same, some-same}

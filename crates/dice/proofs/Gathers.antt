@@ -17,9 +17,10 @@ use Rattle.claims.specs.declared.kinds.Algorithm.{Algorithm}
 use Rattle.claims.specs.declared.kinds.Digests.{Digests}
 use Rattle.der.specs.Encodes.{Coded, Chain}
 use Rattle.der.specs.Items.{shapeOf}
-use Rattle.der.specs.Kinds.{Holder, isOctets, isIdentifier, isSequence, itemAt, some, none, before}
-use Rattle.der.specs.Parts.{Piece}
-use Rattle.der.specs.declared.kinds.Read.{Read}
+use Rattle.parts.specs.Parts.{some, none, before}
+use Rattle.der.specs.Kinds.{Holder, isOctets, isIdentifier, isSequence, itemAt}
+use Rattle.parts.specs.Parts.{Piece}
+use Rattle.parts.specs.declared.kinds.Read.{Read}
 use Rattle.der.proofs.Back.{Begun, chain-back}
 use Rattle.der.proofs.Encoded.{chain-forth}
 use Rattle.refusals.proofs.Outcomes.{onward-back, keeps-back, need-back, orRefuse-back, need-true, ok-same}

@@ -11,8 +11,9 @@ use Rattle.std.specs.declared.result.Result.the-variants.{Ok, Err}
 use Rattle.refusals.specs.Reading.{Outcome}
 use Rattle.der.specs.Encodes.{Coded}
 use Rattle.der.specs.Items.{Shape, Front, shapeOf, itemOf}
-use Rattle.der.specs.Kinds.{Holder, itemAt, some, none, before}
-use Rattle.der.specs.Parts.{Piece}
+use Rattle.parts.specs.Parts.{some, none, before}
+use Rattle.der.specs.Kinds.{Holder, itemAt}
+use Rattle.parts.specs.Parts.{Piece}
 use Rattle.der.proofs.Encoded.{Found, item-forth}
 use Rattle.der.proofs.Back.{ItemIs, item-back}
 use Rattle.refusals.proofs.Outcomes.{orRefuse-back, ok-same}

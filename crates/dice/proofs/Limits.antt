@@ -31,14 +31,15 @@ use Rattle.claims.specs.declared.kinds.Values.{Values}
 use Rattle.claims.specs.declared.kinds.Flags.{Flags}
 use Rattle.claims.specs.declared.kinds.Claim.{Claim}
 use Rattle.der.specs.Contents.{bytesIn, integerIn, shortest}
-use Rattle.der.specs.Heads.{big}
-use Rattle.der.specs.Parts.{Piece, wholeOf}
+use Rattle.parts.specs.Numbers.{big}
+use Rattle.parts.specs.Parts.{Piece, wholeOf}
 use Rattle.der.specs.Items.{Shape, Front, itemOf}
-use Rattle.der.specs.Kinds.{isOctets, isIdentifier, isSequence, isBoolean, isField, Holder, itemAt, some, none, before, truth, pastBoolean, afterBoolean}
-use Rattle.der.specs.Holders.{elementsIn}
-use Rattle.der.specs.declared.kinds.Read.{Read}
+use Rattle.parts.specs.Parts.{some, none, before}
+use Rattle.der.specs.Kinds.{isOctets, isIdentifier, isSequence, isBoolean, isField, Holder, itemAt, truth, pastBoolean, afterBoolean}
+use Rattle.parts.specs.Holders.{elementsIn}
+use Rattle.parts.specs.declared.kinds.Read.{Read}
 use Rattle.refusals.proofs.Outcomes.{mapped-back}
-use Rattle.der.proofs.Sound.{OfReader, Sound, sound-onward, sound-keeps, sound-need, sound-orRefuse, sound-cond, sound-elements}
+use Rattle.parts.proofs.Sound.{OfReader, Sound, sound-onward, sound-keeps, sound-need, sound-orRefuse, sound-cond, sound-elements}
 use Rattle.evidence.specs.Readings.{Reading, KeepsLimits, RefusesAsReader}
 use Rattle.dice.specs.Names.{algorithmNamed, extensionOf}
 use Rattle.dice.specs.Flags.{flagsOf, padded, flagsIn}

@@ -26,10 +26,11 @@ use Rattle.claims.specs.declared.kinds.Claim.{Claim}
 use Rattle.der.specs.Contents.{bytesIn, integerIn, shortest}
 use Rattle.der.specs.Encodes.{Coded, Chain, Number, number}
 use Rattle.der.specs.Items.{Shape, shapeOf, itemOf}
-use Rattle.der.specs.Kinds.{isField, isSequence, itemAt, some, none, before}
-use Rattle.der.specs.Parts.{Piece}
-use Rattle.der.specs.Holders.{elementsIn}
-use Rattle.der.specs.declared.kinds.Read.{Read}
+use Rattle.parts.specs.Parts.{some, none, before}
+use Rattle.der.specs.Kinds.{isField, isSequence, itemAt}
+use Rattle.parts.specs.Parts.{Piece}
+use Rattle.parts.specs.Holders.{elementsIn}
+use Rattle.parts.specs.declared.kinds.Read.{Read}
 use Rattle.der.proofs.Back.{Begun, ItemIs, item-back, chain-back, integer-back}
 use Rattle.der.proofs.Encoded.{item-forth, chain-forth, integer-forth}
 use Rattle.refusals.proofs.Outcomes.{onward-back, keeps-back, need-back, orRefuse-back, need-true, ok-same, cond-back}

@@ -6,9 +6,10 @@ use Rattle.refusals.specs.declared.Refusal.the-variants.{Malformed, Unknown, Ou
 use Rattle.claims.specs.Digests.{noDigests, withDigest, hasDigest}
 use Rattle.claims.specs.declared.kinds.Algorithm.{Algorithm}
 use Rattle.claims.specs.declared.kinds.Digests.{Digests}
-use Rattle.der.specs.Parts.{Piece}
-use Rattle.der.specs.Kinds.{isOctets, isIdentifier, isSequence, itemAt, some, none, before}
-use Rattle.der.specs.Holders.{Element, elementsIn}
+use Rattle.parts.specs.Parts.{Piece}
+use Rattle.parts.specs.Parts.{some, none, before}
+use Rattle.der.specs.Kinds.{isOctets, isIdentifier, isSequence, itemAt}
+use Rattle.parts.specs.Holders.{Element, elementsIn}
 use Rattle.dice.specs.declared.kinds.Gathered.{Gathered}
 use Rattle.dice.specs.Names.{algorithmNamed}
 

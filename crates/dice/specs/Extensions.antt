@@ -7,9 +7,10 @@ use Rattle.refusals.specs.Reading.{Outcome, onward, keeps, need}
 use Rattle.refusals.specs.declared.Refusal.the-variants.{Malformed, Unknown, Missing}
 use Rattle.claims.specs.declared.kinds.Bytes.{Bytes}
 use Rattle.der.specs.Contents.{bytesIn}
-use Rattle.der.specs.Holders.{Element}
-use Rattle.der.specs.Kinds.{isOctets, isIdentifier, isSequence, itemAt, some, none, before, afterBoolean}
-use Rattle.der.specs.Parts.{Piece}
+use Rattle.parts.specs.Holders.{Element}
+use Rattle.parts.specs.Parts.{some, none, before}
+use Rattle.der.specs.Kinds.{isOctets, isIdentifier, isSequence, itemAt, afterBoolean}
+use Rattle.parts.specs.Parts.{Piece}
 use Rattle.dice.specs.Fields.{infoIn}
 use Rattle.dice.specs.Names.{extensionOf}
 use Rattle.dice.specs.declared.kinds.Extension.{Extension}

@@ -13,10 +13,11 @@ use Rattle.claims.specs.declared.kinds.Environment.{Environment}
 use Rattle.claims.specs.declared.kinds.Values.{Values}
 use Rattle.claims.specs.declared.kinds.Claim.{Claim}
 use Rattle.der.specs.Contents.{bytesIn, shortest, integerIn}
-use Rattle.der.specs.Holders.{Element, elementsIn}
+use Rattle.parts.specs.Holders.{Element, elementsIn}
 use Rattle.der.specs.Items.{itemOf}
-use Rattle.der.specs.Kinds.{isField, isSequence, itemAt, some, none, before}
-use Rattle.der.specs.Parts.{Piece}
+use Rattle.parts.specs.Parts.{some, none, before}
+use Rattle.der.specs.Kinds.{isField, isSequence, itemAt}
+use Rattle.parts.specs.Parts.{Piece}
 use Rattle.dice.specs.Digests.{digestsIn}
 use Rattle.dice.specs.Flags.{flagsIn}
 use Rattle.dice.specs.declared.kinds.Fields.{Fields}

@@ -8,8 +8,8 @@ use Rattle.std.specs.declared.result.Result.the-variants.{Ok}
 use Rattle.refusals.specs.Reading.{Outcome, keeps, above}
 use Rattle.claims.specs.declared.kinds.Claim.{Claim}
 use Rattle.der.specs.Encodes.{Coded, Chain}
-use Rattle.der.specs.Holders.{elementsIn}
-use Rattle.der.specs.Parts.{wholeOf}
+use Rattle.parts.specs.Holders.{elementsIn}
+use Rattle.parts.specs.Parts.{wholeOf}
 use Rattle.dice.specs.Flags.{flagOf, flagsOf}
 use Rattle.dice.specs.Fields.{fieldAt, noFields}
 use Rattle.dice.specs.Layout.{Says, FieldOf, Writes, Carries}

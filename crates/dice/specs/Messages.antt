@@ -9,9 +9,10 @@ use Rattle.claims.specs.Environments.{withInstance}
 use Rattle.claims.specs.Limits.{stands}
 use Rattle.claims.specs.declared.kinds.Bytes.{Bytes}
 use Rattle.claims.specs.declared.kinds.Claim.{Claim}
-use Rattle.der.specs.Holders.{elementsIn}
-use Rattle.der.specs.Kinds.{isSequence, itemAt, some, none}
-use Rattle.der.specs.Parts.{wholeOf}
+use Rattle.parts.specs.Holders.{elementsIn}
+use Rattle.parts.specs.Parts.{some, none}
+use Rattle.der.specs.Kinds.{isSequence, itemAt}
+use Rattle.parts.specs.Parts.{wholeOf}
 use Rattle.evidence.specs.Readings.{Reading}
 use Rattle.dice.specs.Extensions.{extensionAt, noExtensions}
 use Rattle.dice.specs.Fields.{inEnvironment}

@@ -1,18 +1,18 @@
 ghost use mathlib.Core.Path.{_≡_};
 ghost use Prim.Native.Nat.{ℕ};
-ghost use Rattle.der.specs.Parts.{piece};
+ghost use Rattle.parts.specs.Parts.{piece};
 ghost use Rattle.dice.specs.Digests.{digestValue, digestParts, digestAt, digestsIn};
 use crate::kinds::Gathered;
 use crate::names::algorithm_named;
 use claims::kinds::Algorithm;
 use claims::kinds::Digests;
-use der::holders::Elements;
-use der::holders::read_elements;
 use der::items::take_identifier;
 use der::items::take_octets;
 use der::items::take_sequence;
-use der::kinds::Part;
-use der::kinds::Read;
+use parts::holders::Elements;
+use parts::holders::read_elements;
+use parts::kinds::Part;
+use parts::kinds::Read;
 use refusals::Refusal;
 
 // The OCTET STRING of a digest, which fills what is left of the SEQUENCE at a place.

@@ -1,6 +1,6 @@
 ghost use mathlib.Core.Path.{_≡_};
 ghost use Prim.Native.Nat.{ℕ};
-ghost use Rattle.der.specs.Parts.{piece};
+ghost use Rattle.parts.specs.Parts.{piece};
 ghost use Rattle.dice.specs.Extensions.{ueidIn, heldBy, again, extensionValue, afterName, extensionParts, extensionAt};
 use crate::fields::read_info;
 use crate::kinds::Extension;
@@ -8,13 +8,13 @@ use crate::kinds::Extensions;
 use crate::names::extension_of;
 use claims::kinds::Bytes;
 use der::contents::read_bytes;
-use der::holders::Elements;
 use der::items::skip_boolean;
 use der::items::take_identifier;
 use der::items::take_octets;
 use der::items::take_sequence;
-use der::kinds::Part;
-use der::kinds::Read;
+use parts::holders::Elements;
+use parts::kinds::Part;
+use parts::kinds::Read;
 use refusals::Refusal;
 
 // DiceUeid, which fills the OCTET STRING at a place: a SEQUENCE of one OCTET STRING, the instance.

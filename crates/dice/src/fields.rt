@@ -1,7 +1,7 @@
 ghost use mathlib.Core.Path.{_≡_};
 ghost use mathlib.Core.Bool.{Bool};
 ghost use Prim.Native.Nat.{ℕ};
-ghost use Rattle.der.specs.Parts.{piece};
+ghost use Rattle.parts.specs.Parts.{piece};
 ghost use Rattle.dice.specs.Fields.{formed, environmentField, valueField, ofValues, fieldSays, fieldAt, infoIn};
 use crate::digests::read_digests;
 use crate::flags::read_flags;
@@ -12,13 +12,13 @@ use claims::kinds::Values;
 use der::contents::is_shortest;
 use der::contents::read_bytes;
 use der::contents::read_integer;
-use der::holders::Elements;
-use der::holders::read_elements;
+use der::items::take_item;
 use der::items::take_sequence;
 use der::kinds::Item;
-use der::kinds::Part;
-use der::kinds::Read;
-use der::parts::take_item;
+use parts::holders::Elements;
+use parts::holders::read_elements;
+use parts::kinds::Part;
+use parts::kinds::Read;
 use refusals::Refusal;
 use refusals::reading::rises;
 

@@ -10,10 +10,10 @@ use crate::kinds::Extensions;
 use claims::kinds::Bytes;
 use claims::kinds::Claim;
 use claims::kinds::Environment;
-use der::holders::read_elements;
 use der::items::take_sequence;
-use der::kinds::Part;
 use evidence::Format;
+use parts::holders::read_elements;
+use parts::kinds::Part;
 use refusals::Refusal;
 
 // The claim of DiceTcbInfo, on the instance of DiceUeid where there is one.

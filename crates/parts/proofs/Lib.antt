@@ -1,0 +1,4 @@
+pub mod Bigs
+pub mod Cuts
+pub mod Steps
+pub mod Sound

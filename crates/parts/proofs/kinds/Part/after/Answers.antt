@@ -1,0 +1,13 @@
+use Prim.Native.Nat.{ℕ, _+_}
+use mathlib.Core.Path.{_≡_, ap, _∙_}
+use mathlib.Core.List.{List}
+use lib.ListN.{length}
+use Prim.Native.Nat.{min}
+use Rattle.parts.specs.Parts.{Piece}
+use Rattle.parts.proofs.Cuts.{after-same}
+use Rattle.parts.proofs.kinds.Part.after.Needs as need
+
+pub returns : need.returns
+returns c =
+    after-same (c .args .self .message .now) (c .args .self .at) (c .args .n) (c .min-step .result)
+    (c .min-step .ensures ∙ ap (λ (l : List ℕ). min (c .args .n) (length l)) (c .bytes .ensures .value))

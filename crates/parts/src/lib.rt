@@ -1,0 +1,4 @@
+pub mod holders;
+pub mod kinds;
+pub mod numbers;
+pub mod parts;
