@@ -46,7 +46,8 @@ impl<'a> Part<'a> {
 
     // What follows the first n bytes.
     pub fn after(self, n: usize) -> Part<'a>
-        ensures { λ r. ⌜ piece r ≡ after n (piece (self .entry)) ⌝ }
+        ensures value { λ r. ⌜ piece r ≡ after n (piece (self .entry)) ⌝ }
+        ensures len { λ r. ⌜ length (piece r .bytes) ≡ length (piece (self .entry) .bytes) - n ⌝ }
     {
         let step = n.min(self.bytes().len());
         Part {

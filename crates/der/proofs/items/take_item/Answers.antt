@@ -12,7 +12,7 @@ returns c = record {
   value = search needs;
   shorter = omega (
     arith,
-    ap (λ (q : Piece). length (q .bytes)) (c .after-2 .ensures),
+    ap (λ (q : Piece). length (q .bytes)) (c .after-2 .ensures .value),
     length-drop (c .in-Some .head .header + c .in-Some .head .size) (piece (c .args .part) .bytes),
     ap length (c .bytes .ensures .value),
     c .in-Some .ensures tt .within,

@@ -1,0 +1,5 @@
+mod heads;
+pub mod holders;
+pub mod items;
+pub mod kinds;
+pub mod scalars;
