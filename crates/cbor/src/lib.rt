@@ -1,3 +1,5 @@
+#![tactic(auto)]
+
 mod heads;
 pub mod holders;
 pub mod items;

@@ -1,3 +1,5 @@
+#![tactic(auto)]
+
 pub mod contents;
 mod heads;
 pub mod items;

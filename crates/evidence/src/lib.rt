@@ -1,3 +1,5 @@
+#![tactic(auto)]
+
 ghost use Rattle.std.specs.Prelude.{◌≡◌, ℕ, List};
 ghost use Rattle.evidence.specs.Readings.{Reading, counted, claim_at, KeepsLimits, RefusesAsReader};
 

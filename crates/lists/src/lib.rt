@@ -1,3 +1,5 @@
+#![tactic(auto)]
+
 pub mod asking;
 pub mod distinct;
 mod examples;

@@ -1,3 +1,5 @@
+#![tactic(auto)]
+
 mod digests;
 pub mod environments;
 mod flags;

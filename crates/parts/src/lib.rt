@@ -1,3 +1,5 @@
+#![tactic(auto)]
+
 pub mod holders;
 pub mod kinds;
 pub mod numbers;

@@ -1,3 +1,5 @@
+#![tactic(auto)]
+
 pub mod additions;
 pub mod few;
 pub mod kinds;

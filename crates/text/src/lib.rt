@@ -1,2 +1,4 @@
+#![tactic(auto)]
+
 pub mod claim;
 pub mod refusal;

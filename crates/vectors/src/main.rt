@@ -1,4 +1,6 @@
 // Compares worked cases with what the readers make of them, and prints how many agree.
+#![tactic(auto)]
+
 ghost use Rattle.std.specs.Prelude.{◌≡◌};
 ghost use Rattle.parts.specs.Parts.{whole_of};
 ghost use Rattle.cbor.specs.Items.{item_of};

@@ -1,4 +1,6 @@
 // wovyjara [FILE]: answers each line of the file, or of standard input, at once.
+#![tactic(auto)]
+
 use anyhow::anyhow;
 use script::complaints::Complaint;
 use session::lines::answer;
