@@ -8,10 +8,10 @@ at : (fs : List (Option Bool)) (i : ℕ) (b : Bool) → i < length fs → b ≡ 
 at fs i b h e = at_drop_more some_flag fs i None h ∙ ap (λ (t : Bool). t || some_flag (drop (i + 1) fs)) (sym e)
 
 pub loop-i-preserved : goal.loop-i-preserved
-loop-i-preserved c = c.loop-i.invariant ∙ at c.args.states.now c.loop-i.i false c.loop-i-test.true c.if-is-some.ensures
+loop-i-preserved c = c.loop-i.invariant ∙ at c.args.states.now c.loop-i.i false c.loop-i-test.true c.if-is_some.ensures
 
-pub returns-then-is-some : goal.returns-then-is-some
-returns-then-is-some c = sym (c.loop-i.invariant ∙ at c.args.states.now c.loop-i.i true c.loop-i-test.true c.if-is-some.ensures)
+pub returns-then-is_some : goal.returns-then-is_some
+returns-then-is_some c = sym (c.loop-i.invariant ∙ at c.args.states.now c.loop-i.i true c.loop-i-test.true c.if-is_some.ensures)
 
 pub returns : goal.returns
 returns c = sym (c.loop-i.invariant ∙ at_drop_all some_flag c.args.states.now c.loop-i.i (omega arith))

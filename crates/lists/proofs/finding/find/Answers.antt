@@ -9,12 +9,12 @@ loop-i-init g c = from_start (first_of (λ x. g.E.Meets.meets x c.args.question.
 pub loop-i-preserved : goal.loop-i-preserved
 loop-i-preserved g c =
     find_more (λ x. g.E.Meets.meets x c.args.question.now) c.args.places.now c.args.count c.loop-i.i c.index-places-i.result
-    (omega arith) c.index-places-i.is c.if-is-met.ensures c.loop-i.invariant
+    (omega arith) c.index-places-i.is c.if-is_met.ensures c.loop-i.invariant
 
-pub returns-then-is-met : goal.returns-then-is-met
-returns-then-is-met g c =
+pub returns-then-is_met : goal.returns-then-is_met
+returns-then-is_met g c =
     let v = find_here (λ x. g.E.Meets.meets x c.args.question.now) c.args.places.now c.args.count c.loop-i.i c.index-places-i.result
-    (omega arith) c.index-places-i.is c.if-is-met.ensures c.loop-i.invariant in
+    (omega arith) c.index-places-i.is c.if-is_met.ensures c.loop-i.invariant in
     record { value = v; law = first_from _ _ _ v }
 
 pub returns : goal.returns

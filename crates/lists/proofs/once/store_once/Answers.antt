@@ -11,11 +11,11 @@ returns-in-Some g c =
 pub returns-then-held-places : goal.returns-then-held-places
 returns-then-held-places g c =
     let w = full g.E.Same.same c.args.x c.args.places.now c.args.count c.min-held.result
-    c.min-held.ensures c.if-held-places.true c.in-default.ensures.value in
+    c.min-held.ensures c.if-held-places.true c.in_default.ensures.value in
     record { answer = w.0; places = w.1; once = w.2 }
 
 pub returns : goal.returns
 returns g c =
     let w = put g.E.Same.same c.args.x c.args.places.now c.args.count c.min-held.result
-    c.min-held.ensures (omega arith) g.met.E.Same.reflexive g.met.E.Same.symmetric c.in-default.ensures.value in
+    c.min-held.ensures (omega arith) g.met.E.Same.reflexive g.met.E.Same.symmetric c.in_default.ensures.value in
     record { answer = w.0; places = w.1; once = w.2 }

@@ -7,11 +7,11 @@ use Rattle.parts.proofs.numbers.big_endian.Goals as goal
 eight_more : (i : ℕ) → 2 ^ (8 * (i + 1)) ≡ 2 ^ (8 * i) * 256
 eight_more i = ap (λ e. 2 ^ e) (mul-add 8 i 1) ∙ pow-add 2 (8 * i) 8
 
-pub overflow-mul-n : goal.overflow-mul-n
-overflow-mul-n c = let k : 8 * c.loop-b.b-index ≤ 56 = omega arith in omega (arith, pow_mono k)
+pub overflow_mul-n : goal.overflow_mul-n
+overflow_mul-n c = let k : 8 * c.loop-b.b-index ≤ 56 = omega arith in omega (arith, pow_mono k)
 
-pub overflow-add-n : goal.overflow-add-n
-overflow-add-n c = let k : 8 * c.loop-b.b-index ≤ 56 = omega arith in omega (arith, pow_mono k)
+pub overflow_add-n : goal.overflow_add-n
+overflow_add-n c = let k : 8 * c.loop-b.b-index ≤ 56 = omega arith in omega (arith, pow_mono k)
 
 pub loop-b-preserved : goal.loop-b-preserved
 loop-b-preserved c = (

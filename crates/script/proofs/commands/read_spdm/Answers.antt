@@ -2,5 +2,5 @@ use Rattle.std.proofs.Common.{rules}
 use Rattle.script.proofs.Skips.{ended_more}
 use Rattle.script.proofs.commands.read_spdm.Goals as goal
 
-pub returns-then-is-some : goal.returns-then-is-some
-returns-then-is-some c = search (rules, ended_more)
+pub returns-then-is_some : goal.returns-then-is_some
+returns-then-is_some c = search (rules, ended_more)

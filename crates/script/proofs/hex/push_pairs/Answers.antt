@@ -6,8 +6,8 @@ use Rattle.script.proofs.hex.push_pairs.Goals as goal
 
 pub loop-byte-preserved : goal.loop-byte-preserved
 loop-byte-preserved c =
-    joined_on hex_pair (string_bytes c.args.out.now) (string_bytes c.loop-byte.out) (string_bytes c.push-pair.new.out)
-    c.args.bytes.now c.loop-byte.byte-index (omega arith) c.loop-byte.invariant c.in-ok-push-pair.ensures
+    joined_on hex_pair (string_bytes c.args.out.now) (string_bytes c.loop-byte.out) (string_bytes c.push_pair.new.out)
+    c.args.bytes.now c.loop-byte.byte-index (omega arith) c.loop-byte.invariant c.in_ok-push_pair.ensures
 
 pub returns : goal.returns
 returns c = search (rules, take_all)

@@ -5,7 +5,7 @@ use Rattle.claims.proofs.kinds.Claim.is_same.Goals as goal
 
 pub returns : goal.returns
 returns c =
-    let v = c.same-parts.ensures in
+    let v = c.same_parts.ensures in
     record {
       value = v;
       alike = Decides-at _ _ v (claim_tells c.args.self.now c.args.other.now);
