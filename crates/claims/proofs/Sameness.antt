@@ -1,9 +1,10 @@
-use Rattle.std.proofs.Common.{◌≡◌, ℕ, suc, Bool, true, false, eqb, ◌⊎◌, List, [], ◌∷◌, length, IfSome, Some, None, Decides, Option, sym, refl, ap, ◌∙◌, inl, inr, arith, MatchOption}
-use Rattle.std.specs.Cmp.Lexicographic.{Matches, Same, Apart}
-use Rattle.std.specs.Option.{option_map}
+use Rattle.std.proofs.Common.{◌≡◌, ℕ, Bool, true, false, eqb, List, [], ◌∷◌, IfSome, Some, None, Decides, Option, sym, refl, ap, ◌∙◌, arith}
+use Rattle.std.specs.Cmp.Lexicographic.{pointwise}
+use Rattle.std.proofs.Math.Bool.{beq}
+use Rattle.std.specs.Option.{option_map, option_eq}
 use Rattle.std.proofs.lemmas.Slice.Eq.{bytes_eq-Decides}
-use Rattle.std.proofs.lemmas.Bool.{and_parts, and_from, and_left, and_right, false≢true}
-use Rattle.std.proofs.lemmas.Bool.Decides.{Decides-and, Decides-eqb, Decides-like, same_from_decides}
+use Rattle.std.proofs.lemmas.Bool.{and_parts, false≢true}
+use Rattle.std.proofs.lemmas.Bool.Decides.{Decides-and, Decides-eqb, Decides-like}
 use Rattle.claims.specs.Bytes.{bounded, content, same}
 use Rattle.claims.specs.Limits.{Holds, Within}
 use Rattle.claims.specs.Same.{same_option, same_state, same_flags, same_digests, same_environment, same_values, same_claim, Meaning, meaning}
@@ -189,32 +190,21 @@ meaning_back a b p q e =
 pub meaning_decides : (a b : Claim) → Within a → Within b → Decides (same_claim a b) (meaning a ≡ meaning b)
 meaning_decides a b p q = ((λ e. ap meaning ((claim_tells a b).0 e)), λ e. (claim_tells a b).1 (meaning_back a b p q e))
 
--- what `==` tells of two flags
-abbrev Told : Option Bool → Option Bool → Bool → Type 0
-Told o p r = MatchOption o (MatchOption p (r ≡ true) (λ _. r ≡ false)) (λ x. MatchOption p (r ≡ false) (λ y. Decides r (x ≡ y)))
-
-told_same : (a b : Option Bool) (r : Bool) → Told a b r → r ≡ same_option same_state a b
-told_same None None r h = h
-told_same None (Some y) r h = h
-told_same (Some x) None r h = h
-told_same (Some x) (Some y) r h = same_from_decides r (same_state x y) h (state_tells x y)
-
-flags_same : (xs ys : List (Option Bool)) → Same Told xs ys → same_flags xs ys ≡ true
-flags_same [] [] h = refl
-flags_same [] (y ∷ ys) h = absurd h
-flags_same (x ∷ xs) [] h = absurd h
-flags_same (x ∷ xs) (y ∷ ys) h = and_from _ _ (sym (told_same x y true h.0)) (flags_same xs ys h.1)
-
-flags_differ : (xs ys : List (Option Bool)) → (length xs ≡ length ys → ⊥) ⊎ Apart Told xs ys → same_flags xs ys ≡ false
-flags_differ [] [] (inl n) = absurd (n refl)
-flags_differ [] [] (inr h) = absurd h
-flags_differ [] (y ∷ ys) h = refl
-flags_differ (x ∷ xs) [] h = refl
-flags_differ (x ∷ xs) (y ∷ ys) (inl n) = and_right _ _ (flags_differ xs ys (inl (λ e. n (ap suc e))))
-flags_differ (x ∷ xs) (y ∷ ys) (inr (inl h)) = and_left _ _ (sym (told_same x y false h))
-flags_differ (x ∷ xs) (y ∷ ys) (inr (inr h)) = and_right _ _ (flags_differ xs ys (inr h))
-
 -- what `==` tells of flags
-pub flags_told : (xs ys : List (Option Bool)) (r : Bool) → Matches Told xs ys r → r ≡ same_flags xs ys
-flags_told xs ys true h = sym (flags_same xs ys h.1)
-flags_told xs ys false h = sym (flags_differ xs ys h)
+state_told : (a b : Bool) → beq a b ≡ same_state a b
+state_told true true = refl
+state_told true false = refl
+state_told false true = refl
+state_told false false = refl
+
+flag_told : (a b : Option Bool) → option_eq beq a b ≡ same_option same_state a b
+flag_told None None = refl
+flag_told None (Some y) = refl
+flag_told (Some x) None = refl
+flag_told (Some x) (Some y) = state_told x y
+
+pub flags_told : (xs ys : List (Option Bool)) → pointwise (option_eq beq) xs ys ≡ same_flags xs ys
+flags_told [] [] = refl
+flags_told [] (y ∷ ys) = refl
+flags_told (x ∷ xs) [] = refl
+flags_told (x ∷ xs) (y ∷ ys) = rw (flag_told x y, flags_told xs ys) refl

@@ -2,7 +2,6 @@ use Rattle.std.specs.Prelude.{◌≡◌, ℕ, ◌≤◌, Bool, true, false, ◌&
 use Rattle.claims.specs.Bytes.{bounded, content, same}
 use Rattle.claims.specs.declared.kinds.Bytes.{Bytes}
 use Rattle.claims.specs.declared.kinds.Digests.{Digests}
-use Rattle.claims.specs.declared.kinds.Flags.{Flags}
 use Rattle.claims.specs.declared.kinds.Environment.{Environment}
 use Rattle.claims.specs.declared.kinds.Values.{Values}
 use Rattle.claims.specs.declared.kinds.Claim.{Claim}

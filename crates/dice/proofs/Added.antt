@@ -1,12 +1,12 @@
-use Rattle.std.proofs.Common.{◌≡◌, ℕ, zero, suc, ◌%◌, ◌<◌, Bool, true, ltb, List, [], ◌∷◌, ◌++◌, Some, None, Ok, Option, sym, refl, ap, ◌∙◌, subst, append_assoc, arith}
+use Rattle.std.proofs.Common.{◌≡◌, ℕ, zero, suc, ◌%◌, true, List, ◌++◌, Some, None, Ok, Option, sym, refl, ap, ◌∙◌, subst, append_assoc, arith}
 use Rattle.std.proofs.lemmas.Bool.{lt-ltb, ltb-true}
 use Rattle.refusals.specs.Reading.{above}
 use Rattle.claims.specs.declared.kinds.Claim.{Claim}
-use Rattle.der.specs.Encodes.{Coded, Chain, done, more}
+use Rattle.der.specs.Encodes.{Chain, done, more}
 use Rattle.der.proofs.Encoded.{chain_forth}
 use Rattle.dice.specs.Fields.{field_at, no_fields}
-use Rattle.dice.specs.Layout.{Says, vendor, model, version, svn, layer, index, digests, flags, raw, class, FieldOf, field_of, Writes}
-use Rattle.dice.specs.Laws.{fields_say, Extends, extends, Others, Adding, FlagsBySense}
+use Rattle.dice.specs.Layout.{Says, vendor, model, version, svn, layer, index, digests, flags, raw, class, FieldOf, field_of}
+use Rattle.dice.specs.Laws.{fields_say, extends, Others, Adding, FlagsBySense}
 use Rattle.dice.specs.declared.kinds.Fields.{Fields}
 use Rattle.dice.proofs.Spoken.{field_forth}
 

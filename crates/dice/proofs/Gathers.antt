@@ -1,15 +1,14 @@
-use Rattle.std.proofs.Common.{◌≡◌, ℕ, ◌+◌, ◌-◌, ◌%◌, ◌<◌, ◌≤◌, Bool, true, false, not, eqb, ltb, List, [], ◌++◌, length, Some, None, Ok, Err, Option, sym, refl, ap, ◌∙◌, subst, arith}
+use Rattle.std.proofs.Common.{◌≡◌, ℕ, ◌+◌, ◌-◌, ◌<◌, true, false, not, List, ◌++◌, length, Some, Ok, sym, refl, ap, ◌∙◌, subst, arith}
 use Rattle.std.proofs.lemmas.List.{append-nil, length-append, nil_from_length}
-use Rattle.std.proofs.lemmas.Bool.{lt-ltb, ltb-true, eqb-true, not-true, not_from_false}
+use Rattle.std.proofs.lemmas.Bool.{lt-ltb, ltb-true, eqb-true, not-true}
 use Rattle.std.proofs.lemmas.Bool.Decides.{nat_tests}
-use Rattle.refusals.specs.Reading.{Outcome, onward, need, or_refuse}
 use Rattle.claims.specs.Digests.{no_digests, with_digest, has_digest}
 use Rattle.claims.specs.declared.kinds.Algorithm.{Algorithm}
 use Rattle.claims.specs.declared.kinds.Digests.{Digests}
 use Rattle.der.specs.Encodes.{Coded, Chain}
 use Rattle.der.specs.Items.{shape_of}
 use Rattle.parts.specs.Parts.{some, none, before}
-use Rattle.der.specs.Kinds.{Holder, is_octets, is_identifier, is_sequence, item_at}
+use Rattle.der.specs.Kinds.{is_octets, is_identifier, is_sequence, item_at}
 use Rattle.parts.specs.Parts.{Piece}
 use Rattle.parts.specs.declared.kinds.Read.{Read}
 use Rattle.der.proofs.Back.{Begun, chain_back}
@@ -19,7 +18,7 @@ use Rattle.dice.specs.Names.{algorithm_named}
 use Rattle.dice.specs.Digests.{digest_value, digest_parts, digest_at, digests_in}
 use Rattle.dice.specs.Layout.{DigestOf, digest}
 use Rattle.dice.specs.declared.kinds.Gathered.{Gathered}
-use Rattle.dice.proofs.Items.{kind_forth, kind_whole, Was, kind_back}
+use Rattle.dice.proofs.Items.{kind_forth, kind_whole, kind_back}
 
 pub octets_fit : (t : ℕ) (p q : Piece) → is_octets (shape_of t p) ≡ Some q → (t ≡ 4) × (p ≡ q)
 octets_fit t p q e = grind (arith, nat_tests)

@@ -1,13 +1,11 @@
-use Rattle.std.proofs.Common.{◌≡◌, ℕ, ◌+◌, ◌-◌, ◌%◌, ◌<◌, ◌≤◌, Bool, true, List, [], ◌++◌, length, Some, None, Ok, Err, Option, sym, refl, ap, ◌∙◌, subst, arith}
-use Rattle.std.proofs.lemmas.List.{append-nil, length-append}
-use Rattle.refusals.specs.Reading.{Outcome}
+use Rattle.std.proofs.Common.{◌≡◌, ℕ, ◌+◌, ◌%◌, ◌<◌, List, [], ◌++◌, length, Some, Ok, Option, sym, ap, ◌∙◌, subst}
+use Rattle.std.proofs.lemmas.List.{append-nil}
 use Rattle.der.specs.Encodes.{Coded}
-use Rattle.der.specs.Items.{Shape, Front, shape_of, item_of}
-use Rattle.parts.specs.Parts.{some, none, before}
+use Rattle.der.specs.Items.{Shape, shape_of, item_of}
 use Rattle.der.specs.Kinds.{Holder, item_at}
 use Rattle.parts.specs.Parts.{Piece}
-use Rattle.der.proofs.Encoded.{Found, item_forth}
-use Rattle.der.proofs.Back.{ItemIs, item_back}
+use Rattle.der.proofs.Encoded.{item_forth}
+use Rattle.der.proofs.Back.{item_back}
 use Rattle.refusals.proofs.Outcomes.{or_refuse_back, ok_same}
 
 -- an item of a kind was written, and is found with its content

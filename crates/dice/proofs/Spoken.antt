@@ -1,12 +1,11 @@
-use Rattle.std.proofs.Common.{◌≡◌, ℕ, ◌+◌, ◌-◌, ◌%◌, ◌^◌, ◌<◌, ◌≤◌, Bool, true, false, cond, ◌&&◌, ◌||◌, eqb, ltb, leb, ◌⊎◌, List, [], ◌++◌, length, get_or, Some, None, Ok, Err, Option, sym, refl, ap, ◌∙◌, subst, inl, inr, arith, lit<}
-use Rattle.std.proofs.lemmas.List.{append-nil, length-append}
+use Rattle.std.proofs.Common.{◌≡◌, ℕ, ◌+◌, ◌-◌, ◌%◌, ◌<◌, true, ◌&&◌, eqb, ltb, leb, List, ◌++◌, length, get_or, Some, Ok, sym, refl, ap, ◌∙◌, subst, inl, inr, arith, lit<}
+use Rattle.std.proofs.lemmas.List.{length-append}
 use Rattle.std.proofs.lemmas.Bool.{lt-ltb, ltb-true, leb-true, le-leb, eqb-true, and_from, and_parts}
 use Rattle.std.proofs.lemmas.Bool.Decides.{nat_tests}
-use Rattle.refusals.specs.Reading.{Outcome, onward, keeps, need, or_refuse, above}
+use Rattle.refusals.specs.Reading.{above}
 use Rattle.claims.proofs.Kept.{kept_from_lem, kept_within}
-use Rattle.claims.specs.Bytes.{bounded, kept_from}
-use Rattle.claims.specs.Environments.{with_class, with_vendor, with_model, with_layer, with_index}
-use Rattle.claims.specs.Values.{with_version, with_svn, with_digests, with_flags, with_raw}
+use Rattle.claims.specs.Bytes.{kept_from}
+use Rattle.claims.specs.Values.{with_digests}
 use Rattle.claims.specs.declared.kinds.Bytes.{Bytes}
 use Rattle.claims.specs.declared.kinds.Digests.{Digests}
 use Rattle.claims.specs.declared.kinds.Flags.{Flags}
@@ -14,23 +13,22 @@ use Rattle.claims.specs.declared.kinds.Environment.{Environment}
 use Rattle.claims.specs.declared.kinds.Values.{Values}
 use Rattle.claims.specs.declared.kinds.Claim.{Claim}
 use Rattle.der.specs.Contents.{bytes_in, integer_in, shortest}
-use Rattle.der.specs.Encodes.{Coded, Chain, Number, number}
-use Rattle.der.specs.Items.{Shape, shape_of, item_of}
-use Rattle.parts.specs.Parts.{some, none, before}
+use Rattle.der.specs.Encodes.{Coded, Number, number}
+use Rattle.der.specs.Items.{shape_of, item_of}
+use Rattle.parts.specs.Parts.{some, none}
 use Rattle.der.specs.Kinds.{is_field, is_sequence, item_at}
 use Rattle.parts.specs.Parts.{Piece}
 use Rattle.parts.specs.Holders.{elements_in}
 use Rattle.parts.specs.declared.kinds.Read.{Read}
-use Rattle.der.proofs.Back.{Begun, ItemIs, item_back, chain_back, integer_back}
+use Rattle.der.proofs.Back.{Begun, item_back, chain_back, integer_back}
 use Rattle.der.proofs.Encoded.{item_forth, chain_forth, integer_forth}
 use Rattle.refusals.proofs.Outcomes.{onward_back, keeps_back, need_back, or_refuse_back, need_true, ok_same, cond_back}
-use Rattle.dice.specs.Flags.{flags_of, padded, flags_in}
+use Rattle.dice.specs.Flags.{padded, flags_in}
 use Rattle.dice.specs.Digests.{digests_in}
 use Rattle.dice.specs.Fields.{in_environment, in_values, formed, environment_field, value_field, of_values, field_says, field_at, no_fields, info_in}
-use Rattle.dice.specs.Layout.{Kept, kept, Bits, bits, DigestOf, Says, vendor, model, version, svn, layer, index, digests, flags, raw, class, FieldOf, field_of, Writes}
-use Rattle.dice.specs.declared.kinds.Gathered.{Gathered}
+use Rattle.dice.specs.Layout.{Kept, kept, Bits, bits, Says, vendor, model, version, svn, layer, index, digests, flags, raw, class, FieldOf, field_of, Writes}
 use Rattle.dice.specs.declared.kinds.Fields.{Fields}
-use Rattle.dice.proofs.Items.{kind_forth, kind_whole, Was, kind_back}
+use Rattle.dice.proofs.Items.{kind_whole, kind_back}
 use Rattle.dice.proofs.Gathers.{nothing_left, sequence_fits, size_was, digests_forth, digests_back}
 
 -- contents, there and back

@@ -1,4 +1,4 @@
-use Rattle.std.specs.Prelude.{ℕ, Bool, false, not, is_some, Some, None, Ok, Err}
+use Rattle.std.specs.Prelude.{ℕ, Bool, false, not, is_some, Some, None, Ok}
 use Rattle.refusals.specs.Reading.{Outcome, onward, keeps, need}
 use Rattle.refusals.specs.declared.Refusal.TheVariants.{Malformed, Unknown, Missing}
 use Rattle.claims.specs.declared.kinds.Bytes.{Bytes}

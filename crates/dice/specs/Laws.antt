@@ -6,7 +6,7 @@ use Rattle.parts.specs.Holders.{elements_in}
 use Rattle.parts.specs.Parts.{whole_of}
 use Rattle.dice.specs.Flags.{flag_of, flags_of}
 use Rattle.dice.specs.Fields.{field_at, no_fields}
-use Rattle.dice.specs.Layout.{Says, FieldOf, Writes, Carries}
+use Rattle.dice.specs.Layout.{Says, FieldOf, Carries}
 use Rattle.dice.specs.Messages.{reading}
 use Rattle.dice.specs.declared.kinds.Fields.{Fields}
 

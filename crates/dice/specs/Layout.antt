@@ -1,4 +1,4 @@
-use Rattle.std.specs.Prelude.{◌≡◌, ℕ, ◌%◌, ◌<◌, ◌≤◌, Bool, true, false, List, [], ◌∷◌, ◌++◌, length, Some, None, Option, slice_index}
+use Rattle.std.specs.Prelude.{◌≡◌, ℕ, ◌%◌, ◌<◌, ◌≤◌, true, false, List, [], ◌∷◌, ◌++◌, length, Some, None, Option, slice_index}
 use Rattle.refusals.specs.Reading.{above}
 use Rattle.claims.specs.Bytes.{bounded}
 use Rattle.claims.specs.Digests.{no_digests, with_digest, has_digest}

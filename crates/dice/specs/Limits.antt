@@ -1,9 +1,7 @@
-use Rattle.std.specs.Prelude.{◌≡◌, ℕ, ◌%◌, ◌≤◌, Bool, true, not, ◌&&◌, List, [], ◌∷◌, length, IfSome, Some, None, Ok, Err, Option, ◌==◌, nat_le, nat_lt, slice_index, refl}
-use Rattle.std.proofs.Common.{subst, arith}
-use Rattle.std.specs.List.{AllByRecursion as All}
+use Rattle.std.specs.Prelude.{◌≡◌, ℕ, ◌%◌, ◌≤◌, true, not, ◌&&◌, List, [], ◌∷◌, length, IfSome, Some, None, Ok, Err, Option, ◌==◌, nat_le, nat_lt, slice_index, refl}
+use Rattle.std.proofs.Common.{arith}
 use Rattle.std.proofs.lemmas.Bool.{and_parts, leb-true}
-use Rattle.refusals.specs.Reading.{Outcome, onward, keeps, need, or_refuse, above}
-use Rattle.refusals.specs.declared.Refusal.{Refusal}
+use Rattle.refusals.specs.Reading.{Outcome, keeps, above}
 use Rattle.refusals.specs.declared.Refusal.TheVariants.{Malformed, Unknown, OutOfLimits, Missing}
 use Rattle.claims.proofs.Fits.{environment_within, values_within, no_environment_lem, class_fits, vendor_fits, model_fits, layer_fits, index_fits, instance_fits, no_digests_lem, digest_fits, no_values_lem, version_fits, svn_fits, digests_fit, flags_fit, raw_fits}
 use Rattle.claims.proofs.Kept.{kept_holds}
@@ -13,7 +11,6 @@ use Rattle.claims.specs.Environments.{with_class, with_vendor, with_model, with_
 use Rattle.claims.specs.Values.{with_version, with_svn, with_digests, with_flags, with_raw}
 use Rattle.claims.specs.Limits.{Holds, EnvironmentFits, WithinDigests, ValuesFit, Within, some_field, some_value, stands}
 use Rattle.claims.specs.declared.kinds.Algorithm.{Algorithm}
-use Rattle.claims.specs.declared.kinds.Algorithm.TheVariants.{Sha256, Sha384, Sha512}
 use Rattle.claims.specs.declared.kinds.Bytes.{Bytes}
 use Rattle.claims.specs.declared.kinds.Digests.{Digests}
 use Rattle.claims.specs.declared.kinds.Environment.{Environment}
@@ -23,15 +20,14 @@ use Rattle.claims.specs.declared.kinds.Claim.{Claim}
 use Rattle.der.specs.Contents.{bytes_in, integer_in, shortest}
 use Rattle.parts.specs.Numbers.{big}
 use Rattle.parts.specs.Parts.{Piece, whole_of}
-use Rattle.der.specs.Items.{Shape, Front, item_of}
-use Rattle.parts.specs.Parts.{some, none, before}
+use Rattle.der.specs.Items.{Shape, item_of}
+use Rattle.parts.specs.Parts.{some, none}
 use Rattle.der.specs.Kinds.{is_octets, is_identifier, is_sequence, is_boolean, is_field, Holder, item_at, truth, past_boolean, after_boolean}
 use Rattle.parts.specs.Holders.{elements_in}
 use Rattle.parts.specs.declared.kinds.Read.{Read}
 use Rattle.refusals.proofs.Outcomes.{found_some}
-use Rattle.refusals.specs.Figures.{OfReader}
 use Rattle.parts.proofs.Sound.{Sound, sound_onward, sound_keeps, sound_need, sound_or_refuse, sound_cond, sound_elements}
-use Rattle.evidence.specs.Readings.{Reading, KeepsLimits, RefusesAsReader}
+use Rattle.evidence.specs.Readings.{KeepsLimits, RefusesAsReader}
 use Rattle.dice.specs.Names.{algorithm_named, extension_of}
 use Rattle.dice.specs.Flags.{flags_of, padded, flags_in}
 use Rattle.dice.specs.Digests.{digest_value, digest_parts, digest_at, digests_in}

@@ -5,19 +5,19 @@ use Rattle.cbor.specs.Holders.{counted_from}
 use Rattle.cbor.proofs.Counts.{counted_more, counted_none}
 use Rattle.cbor.proofs.holders.read_counted.Goals as goal
 
-pub returns-in-err-element : goal.returns-in-err-element
-returns-in-err-element g c =
-    let found = sym (rw c.after.ensures.value at c.in-err-element.ensures.value) in
-    let stopped : counted_from g.E.Elements.element c.args.count c.args.start c.args.used (piece c.args.part) ≡ Err c.in-err-element.field-0.0
+pub returns-in_err-element : goal.returns-in_err-element
+returns-in_err-element g c =
+    let found = sym (rw c.after.ensures.value at c.in_err-element.ensures.value) in
+    let stopped : counted_from g.E.Elements.element c.args.count c.args.start c.args.used (piece c.args.part) ≡ Err c.in_err-element.field-0.0
     = c.loop-left.invariant.0 ∙ counted_more g.E.Elements.element c.loop-left.left c.loop-left.found c.loop-left.size (piece c.args.part) (omega arith) ∙ rw found in
     search rules
 
-pub overflow-add-size : goal.overflow-add-size
-overflow-add-size g c =
+pub overflow_add-size : goal.overflow_add-size
+overflow_add-size g c =
     omega (
       arith,
       c.loop-left.invariant.2,
-      c.in-ok-element.ensures.within.1,
+      c.in_ok-element.ensures.within.1,
       c.after.ensures.len,
       length-drop c.args.part.at c.args.part.message.now,
       c.ranges.part.0,
@@ -25,8 +25,8 @@ overflow-add-size g c =
 
 pub loop-left-preserved : goal.loop-left-preserved
 loop-left-preserved g c =
-    let found = sym (rw c.after.ensures.value at c.in-ok-element.ensures.value) in
-    let fits = c.in-ok-element.ensures.within in
+    let found = sym (rw c.after.ensures.value at c.in_ok-element.ensures.value) in
+    let fits = c.in_ok-element.ensures.within in
     let len = c.after.ensures.len in (
       c.loop-left.invariant.0 ∙ counted_more g.E.Elements.element c.loop-left.left c.loop-left.found c.loop-left.size (piece c.args.part) (omega arith) ∙ rw found,
       omega (arith, c.loop-left.invariant.1),

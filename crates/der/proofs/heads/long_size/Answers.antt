@@ -12,10 +12,10 @@ read w m r few fits e =
     let l = length-take-le w m fits in
     e ∙ ap (λ (n : ℕ). big_of (take n m)) same ∙ cond-true _ _ _ (le-leb (length (take w m)) 8 (omega arith))
 
-pub returns-in-default : goal.returns-in-default
-returns-in-default c =
-    let h = read c.args.width c.args.bytes.now c.read-big.result (omega arith) (omega arith) c.read-big.ensures in
-    absurd (c.in-default.not-Some _ h)
+pub returns-in_default : goal.returns-in_default
+returns-in_default c =
+    let h = read c.args.width c.args.bytes.now c.read_big.result (omega arith) (omega arith) c.read_big.ensures in
+    absurd (c.in_default.not-Some _ h)
 
 pub returns-then-size-lt128 : goal.returns-then-size-lt128
 returns-then-size-lt128 c =

@@ -2,12 +2,12 @@ use Rattle.std.proofs.Common.{arith}
 use Rattle.std.proofs.lemmas.List.{length-drop}
 use Rattle.cbor.proofs.holders.KeyedElements.read_element.Goals as goal
 
-pub overflow-add-result : goal.overflow-add-result
-overflow-add-result g c =
+pub overflow_add-result : goal.overflow_add-result
+overflow_add-result g c =
     omega (
       arith,
-      c.in-ok-key.ensures.within.1,
-      c.in-ok-value.ensures.within.1,
+      c.in_ok-key.ensures.within.1,
+      c.in_ok-value.ensures.within.1,
       c.after.ensures.len,
       length-drop c.args.part.at c.args.part.message.now,
       c.ranges.part.0,
