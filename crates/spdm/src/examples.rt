@@ -26,7 +26,7 @@ mod tests {
         let Some(raw) = claim.values.raw else {
             return Err(Fail::new("no raw value"));
         };
-        assert!(rt; raw.as_slice() == b"\x00\xC8");
+        assert!(rt; raw.as_slice() == b"\x00\xC8".as_slice());
         let Err(beyond) = reader.claim(message, 1) else {
             return Err(Fail::new("a second claim"));
         };
