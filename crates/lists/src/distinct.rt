@@ -19,7 +19,7 @@ impl<'a, E: Same + Copy> Distinct<'a, E> {
     pub fn new(places: &'a mut [E]) -> Distinct<'a, E>
         ensures lent { result.places.now ≡ places.old }
         ensures empty { take result.count result.places.now ≡ [] }
-        ensures apart { Apart same (take result.count result.places.now) }
+        ensures apart { Apart E.same (take result.count result.places.now) }
     {
         Distinct { places, count: 0 }
     }
@@ -36,8 +36,8 @@ impl<'a, E: Same + Copy> Distinct<'a, E> {
     pub fn find<Q>(&self, question: &Q) -> Option<usize>
     where
         E: Meets<Q>,
-        ensures value { result ≡ first_of (λ (x : E). meets x question.now) (take self.now.count self.now.places.now) }
-        ensures law { First (λ (x : E). meets x question.now) (take self.now.count self.now.places.now) result }
+        ensures value { result ≡ first_of (λ (x : E). E.meets x question.now) (take self.now.count self.now.places.now) }
+        ensures law { First (λ (x : E). E.meets x question.now) (take self.now.count self.now.places.now) result }
     {
         find(self.places, self.count, question)
     }
@@ -45,10 +45,10 @@ impl<'a, E: Same + Copy> Distinct<'a, E> {
     // Stores x once, and says where it stands then; none where the list is full.
     pub fn store_once(&mut self, x: E) -> Option<Stored>
         ensures lender { self.new.places.ghost_name ≡ self.old.places.ghost_name }
-        ensures answer { result ≡ stored_once same (length self.old.places.now) x (take self.old.count self.old.places.now) }
-        ensures places { self.new.places.now ≡ places_once same x self.old.count self.old.places.now }
+        ensures answer { result ≡ stored_once E.same (length self.old.places.now) x (take self.old.count self.old.places.now) }
+        ensures places { self.new.places.now ≡ places_once E.same x self.old.count self.old.places.now }
         ensures count { self.new.count ≡ count_after self.old.count result }
-        ensures once { Once same x self.old.count self.old.places.now self.new.places.now result }
+        ensures once { Once E.same x self.old.count self.old.places.now self.new.places.now result }
     {
         let count = self.count;
         let stored = store_once(self.places, count, x);
