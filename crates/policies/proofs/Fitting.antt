@@ -1,6 +1,5 @@
-use Rattle.std.proofs.Common.{◌≡◌, ℕ, ◌<◌, ◌≤◌, Bool, true, false, List, ◌++◌, length, take, drop, Decides, sym, refl, ap, ◌∙◌, ⊎_elim, append_assoc, arith}
-use Rattle.std.specs.Cmp.Lexicographic.{Matches}
-use Rattle.std.specs.List.{ContainsAt as Has, AllByRecursion as All}
+use Rattle.std.proofs.Common.{◌≡◌, ℕ, ◌<◌, ◌≤◌, Bool, true, false, eqb, List, ◌++◌, length, take, drop, Decides, sym, refl, ap, ◌∙◌, ⊎_elim, append_assoc, arith}
+use Rattle.std.specs.List.{ContainsAt as Has, AllByRecursion as All, starts_with}
 use Rattle.std.proofs.ByRecursion.{all-has, has_append_left, has_append_right}
 use Rattle.std.proofs.lemmas.Slice.Eq.{slice_eq-Decides, bytes_eq-Decides}
 use Rattle.std.proofs.lemmas.List.{take-append-drop, take_at}
@@ -38,7 +37,7 @@ begins_decides b c =
     (bytes_eq-Decides b (take (length b) c))
 
 -- what `starts_with` tells
-pub begins_told : (b c : List ℕ) (r : Bool) → Matches (λ (x y : ℕ) (t : Bool). Decides t (x ≡ y)) b (take (length b) c) r → r ≡ begins b c
+pub begins_told : (b c : List ℕ) (r : Bool) → r ≡ starts_with eqb c b → r ≡ begins b c
 begins_told b c r h = same_from_decides r (begins b c) (slice_eq-Decides Decides-eqb b (take (length b) c) r h) (bytes_eq-Decides b (take (length b) c))
 
 begins_trans : (a b c : List ℕ) → begins a b ≡ true → begins b c ≡ true → begins a c ≡ true

@@ -10,8 +10,8 @@ use Rattle.policies.proofs.grants.GrantsPolicy.permits.Goals as goal
 pub returns : goal.returns
 returns c =
     let gs : List Grant = c.args.self.now.grants.now in
-    let v : c.is-some.result ≡ grants_permit gs c.args.authority c.args.usage c.args.class.now
-    = c.is-some.ensures
+    let v : c.is_some.result ≡ grants_permit gs c.args.authority c.args.usage c.args.class.now
+    = c.is_some.ensures
     ∙ ap is_some (c.find.ensures.value ∙ ap (first_of (λ g. fits g c.args.authority c.args.usage c.args.class.now)) (take_all (length gs) gs (omega arith))) in
     record {
       value = v;

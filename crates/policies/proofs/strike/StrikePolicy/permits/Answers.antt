@@ -10,7 +10,7 @@ pub returns : goal.returns
 returns g c =
     let below : Bool = g.P.Policy.permits c.args.self.now.below c.args.authority c.args.usage c.args.class.now in
     let struck : Bool = in_set c.args.self.now.struck c.args.authority in
-    let v = c.is-left.ensures in
+    let v = c.is_left.ensures in
     record {
       value = v;
       law = Decides-at _ _ v (left_decides below struck);
