@@ -1,5 +1,5 @@
 use Rattle.std.proofs.Common.{◌≡◌, ℕ, ◌+◌, ◌*◌, ◌/◌, ◌%◌, ◌<◌, ◌≤◌, false, eqb, List, [], ◌∷◌, ◌++◌, length, get_or, drop, Some, None, codes, Option, sym, refl, ap, ◌∙◌, append_assoc, arith}
-use Rattle.std.specs.List.{flat_map, AllByRecursion as All}
+use Rattle.std.specs.List.{flat_map, AllByRecursion}
 use Rattle.std.specs.Option.{option_map}
 use Rattle.std.specs.Str.{bytes_eq}
 use Rattle.std.proofs.lemmas.List.{drop_more, drop_all}
@@ -62,7 +62,7 @@ pair_back b h =
     let e : b / 16 * 16 + b % 16 ≡ b = omega arith in
     rw (digit_back (b / 16) (omega arith), digit_back (b % 16) (omega arith), e)
 
-pairs_back : (xs : List ℕ) → All (λ x. x < 256) xs → pair_bytes (flat_map hex_pair xs) ≡ Some xs
+pairs_back : (xs : List ℕ) → AllByRecursion (λ x. x < 256) xs → pair_bytes (flat_map hex_pair xs) ≡ Some xs
 pairs_back [] all = refl
 pairs_back (x ∷ xs) all = rw (pair_back x all.0, pairs_back xs all.1)
 
@@ -73,7 +73,7 @@ word_pairs : (w bs : List ℕ) → 0 < length w → bytes_eq w (codes "-") ≡ f
 word_pairs w bs h s e = let z : eqb (length w) 0 ≡ false = grind (arith, nat_tests) in rw (z, s) e
 
 -- reading what was written gives the bytes back
-pub hex_back : (xs : List ℕ) → All (λ x. x < 256) xs → hex_bytes (hex_text xs) ≡ Some xs
+pub hex_back : (xs : List ℕ) → AllByRecursion (λ x. x < 256) xs → hex_bytes (hex_text xs) ≡ Some xs
 hex_back [] all = refl
 hex_back (x ∷ xs) all =
     rw (text_pairs (x ∷ xs) (omega arith))

@@ -1,5 +1,5 @@
 use Rattle.std.proofs.Common.{◌≡◌, ℕ, ◌+◌, ◌/◌, ◌%◌, ◌^◌, ◌<◌, true, false, eqb, ltb, List, [], ◌∷◌, ◌++◌, length, Some, Ok, codes, decimal, refl, ap, ◌∙◌, arith, rules}
-use Rattle.std.specs.List.{flat_map, AllByRecursion as All}
+use Rattle.std.specs.List.{flat_map, AllByRecursion}
 use Rattle.std.specs.Char.{is_ascii_digit}
 use Rattle.std.specs.Str.{all_ascii_digits}
 use Rattle.std.proofs.lemmas.Fmt.{digits_decimal, digits_value-decimal, decimal_nonempty}
@@ -14,11 +14,11 @@ use Rattle.script.specs.Words.{words_of, spaced, Solid}
 use Rattle.script.proofs.Digits.{hex_back}
 
 -- a word without a space, alone and before a space
-word_alone : (w : List ℕ) → All (λ c. c ≡ 32 → ⊥) w → words_of w ≡ w ∷ []
+word_alone : (w : List ℕ) → AllByRecursion (λ c. c ≡ 32 → ⊥) w → words_of w ≡ w ∷ []
 word_alone [] all = refl
 word_alone (c ∷ cs) all = rw (ne_eqb c 32 all.0, word_alone cs all.1)
 
-word_first : (w rest : List ℕ) → All (λ c. c ≡ 32 → ⊥) w → words_of (w ++ (32 ∷ rest)) ≡ w ∷ words_of rest
+word_first : (w rest : List ℕ) → AllByRecursion (λ c. c ≡ 32 → ⊥) w → words_of (w ++ (32 ∷ rest)) ≡ w ∷ words_of rest
 word_first [] rest all = refl
 word_first (c ∷ cs) rest all = rw (ne_eqb c 32 all.0, word_first cs rest all.1)
 
@@ -31,17 +31,17 @@ words_spaced w (v ∷ ws) solid =
 digit_solid : (d : ℕ) → hex_digit d ≡ 32 → ⊥
 digit_solid d = cond_both (ltb d 10) (48 + d) (55 + d) (λ c. c ≡ 32 → ⊥) (λ _ e. omega arith) (λ _ e. omega arith)
 
-pairs_solid : (bs : List ℕ) → All (λ c. c ≡ 32 → ⊥) (flat_map hex_pair bs)
+pairs_solid : (bs : List ℕ) → AllByRecursion (λ c. c ≡ 32 → ⊥) (flat_map hex_pair bs)
 pairs_solid [] = tt
 pairs_solid (b ∷ bs) = (digit_solid (b / 16), (digit_solid (b % 16), pairs_solid bs))
 
-hex_solid : (bs : List ℕ) → All (λ c. c ≡ 32 → ⊥) (hex_text bs)
-hex_solid bs = cond_both (eqb (length bs) 0) (codes "-") (flat_map hex_pair bs) (All (λ c. c ≡ 32 → ⊥)) (λ _. ((λ e. omega arith), tt)) (λ _. pairs_solid bs)
+hex_solid : (bs : List ℕ) → AllByRecursion (λ c. c ≡ 32 → ⊥) (hex_text bs)
+hex_solid bs = cond_both (eqb (length bs) 0) (codes "-") (flat_map hex_pair bs) (AllByRecursion (λ c. c ≡ 32 → ⊥)) (λ _. ((λ e. omega arith), tt)) (λ _. pairs_solid bs)
 
 own : IsNumeralModel (λ ds. all_ascii_digits ds ≡ true) (value_after 0)
 own = numerals_by_fold _ (search rules) value_after (search rules)
 
-digits_solid : (ds : List ℕ) → all_ascii_digits ds ≡ true → All (λ c. c ≡ 32 → ⊥) ds
+digits_solid : (ds : List ℕ) → all_ascii_digits ds ≡ true → AllByRecursion (λ c. c ≡ 32 → ⊥) ds
 digits_solid [] h = tt
 digits_solid (c ∷ cs) h =
     let p = and_parts (is_ascii_digit c) (all_ascii_digits cs) h in

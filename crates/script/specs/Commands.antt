@@ -1,6 +1,6 @@
 use Rattle.std.specs.Prelude.{ℕ, ◌^◌, ◌<◌, Bool, true, false, cond, ◌&&◌, ◌||◌, List, [], ◌∷◌, Some, None, Ok, Err, codes, decimal, Option, ◌==◌}
 use Rattle.std.specs.Option.{ok_or}
-use Rattle.std.specs.List.{AllByRecursion as All}
+use Rattle.std.specs.List.{AllByRecursion}
 use Rattle.std.specs.Str.{bytes_eq}
 use Rattle.script.specs.Complaints.{Heard, then}
 use Rattle.script.specs.Hex.{hex_bytes, hex_text}
@@ -87,5 +87,5 @@ line_of (read_dice message) = spaced (codes "read" ∷ codes "dice" ∷ hex_text
 
 -- a request of bytes and of a number of 64 bits
 abbrev pub Sayable : Request → Type 0
-Sayable (read_spdm class algorithm message) = All (λ b. b < 256) class × (algorithm < 2 ^ 64) × All (λ b. b < 256) message
-Sayable (read_dice message) = All (λ b. b < 256) message
+Sayable (read_spdm class algorithm message) = AllByRecursion (λ b. b < 256) class × (algorithm < 2 ^ 64) × AllByRecursion (λ b. b < 256) message
+Sayable (read_dice message) = AllByRecursion (λ b. b < 256) message

@@ -1,5 +1,5 @@
 use Rattle.std.specs.Prelude.{ℕ, cond, List, [], ◌∷◌, ◌++◌, ◌==◌, ◌≢◌}
-use Rattle.std.specs.List.{AllByRecursion as All}
+use Rattle.std.specs.List.{AllByRecursion}
 
 -- a byte before the first word
 abbrev pub onto : ℕ → List (List ℕ) → List (List ℕ)
@@ -19,4 +19,4 @@ spaced (w ∷ v ∷ ws) = w ++ (32 ∷ spaced (v ∷ ws))
 
 -- no word has a space
 abbrev pub Solid : List (List ℕ) → Type 0
-Solid ws = All (All (λ c. c ≢ 32)) ws
+Solid ws = AllByRecursion (AllByRecursion (λ c. c ≢ 32)) ws

@@ -1,5 +1,5 @@
 ghost use Rattle.std.specs.Prelude.{◌≡◌, ℕ, ◌<◌, List, IfSome, Some, vec_items, string_bytes};
-ghost use Rattle.std.specs.List.{flat_map, AllByRecursion as All};
+ghost use Rattle.std.specs.List.{flat_map, AllByRecursion};
 ghost use Rattle.std.specs.Option.{ok_or};
 ghost use Rattle.script.specs.Complaints.{Tells};
 ghost use Rattle.script.specs.Hex.{digit_of, byte_of, pair_bytes, hex_bytes, hex_digit, hex_pair, hex_text};
@@ -52,7 +52,7 @@ fn read_pairs(heap: Global, word: &[u8]) -> Result<Vec<u8>, Complaint>
 // The bytes that a word stands for: at least one pair of digits, or `-` for no bytes.
 pub fn read_hex(heap: Global, word: &[u8]) -> Result<Vec<u8>, Complaint>
     ensures value { Tells vec_items result (ok_or (hex_bytes word.now) BadHex) }
-    ensures law { (xs : List ℕ) → All (λ x. x < 256) xs → hex_bytes (hex_text xs) ≡ Some xs }
+    ensures law { (xs : List ℕ) → AllByRecursion (λ x. x < 256) xs → hex_bytes (hex_text xs) ≡ Some xs }
 {
     if word.is_empty() {
         return Err(Complaint::BadHex);
