@@ -4,6 +4,6 @@ use Rattle.text.proofs.claim.push_bytes.Goals as goal
 
 pub returns : goal.returns
 returns g c =
-    bytes_on (string_bytes c.args.out.now) (string_bytes c.push-str.new.self) (string_bytes c.push-hex.new.out)
-    c.args.label.now c.as-slice.result.now c.in-Some.bytes c.args.field c.in-Some.is c.as-slice.ensures
-    c.in-ok-push-str.ensures.bytes c.in-ok-push-hex.ensures
+    bytes_on (string_bytes c.args.out.now) (string_bytes c.push_str.new.self) (string_bytes c.push_hex.new.out)
+    c.args.label.now c.as_slice.result.now c.in-Some.bytes c.args.field c.in-Some.is c.as_slice.ensures
+    c.in_ok-push_str.ensures.bytes c.in_ok-push_hex.ensures

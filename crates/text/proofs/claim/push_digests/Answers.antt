@@ -5,9 +5,9 @@ use Rattle.text.proofs.claim.push_digests.Goals as goal
 
 pub returns : goal.returns
 returns c =
-    appended (string_bytes c.args.out.now) (string_bytes c.push-bytes-3.new.out)
+    appended (string_bytes c.args.out.now) (string_bytes c.push_bytes-3.new.out)
     (bytes_field (codes " digest1=") c.args.digests.now.sha256
     ∷ bytes_field (codes " digest7=") c.args.digests.now.sha384
     ∷ bytes_field (codes " digest8=") c.args.digests.now.sha512
     ∷ [])
-    (next c.in-ok-push-bytes.ensures (next c.in-ok-push-bytes-2.ensures (next c.in-ok-push-bytes-3.ensures done)))
+    (next c.in_ok-push_bytes.ensures (next c.in_ok-push_bytes-2.ensures (next c.in_ok-push_bytes-3.ensures done)))

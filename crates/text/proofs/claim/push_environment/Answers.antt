@@ -5,7 +5,7 @@ use Rattle.text.proofs.claim.push_environment.Goals as goal
 
 pub returns : goal.returns
 returns c =
-    appended (string_bytes c.args.out.now) (string_bytes c.push-bytes-4.new.out)
+    appended (string_bytes c.args.out.now) (string_bytes c.push_bytes-4.new.out)
     (bytes_field (codes " class=") c.args.environment.now.class
     ∷ bytes_field (codes " vendor=") c.args.environment.now.vendor
     ∷ bytes_field (codes " model=") c.args.environment.now.model
@@ -13,9 +13,9 @@ returns c =
     ∷ number_field (codes " index=") c.args.environment.now.index
     ∷ bytes_field (codes " instance=") c.args.environment.now.instance
     ∷ [])
-    (next c.in-ok-push-bytes.ensures (next c.in-ok-push-bytes-2.ensures (next c.in-ok-push-bytes-3.ensures
-    (next (number_on (string_bytes c.push-bytes-3.new.out) (string_bytes c.push-number.new.out) (codes " layer=")
-    c.wide.result c.args.environment.now.layer c.wide.ensures c.in-ok-push-number.ensures)
-    (next (number_on (string_bytes c.push-number.new.out) (string_bytes c.push-number-2.new.out) (codes " index=")
-    c.wide-2.result c.args.environment.now.index c.wide-2.ensures c.in-ok-push-number-2.ensures)
-    (next c.in-ok-push-bytes-4.ensures done))))))
+    (next c.in_ok-push_bytes.ensures (next c.in_ok-push_bytes-2.ensures (next c.in_ok-push_bytes-3.ensures
+    (next (number_on (string_bytes c.push_bytes-3.new.out) (string_bytes c.push_number.new.out) (codes " layer=")
+    c.wide.result c.args.environment.now.layer c.wide.ensures c.in_ok-push_number.ensures)
+    (next (number_on (string_bytes c.push_number.new.out) (string_bytes c.push_number-2.new.out) (codes " index=")
+    c.wide-2.result c.args.environment.now.index c.wide-2.ensures c.in_ok-push_number-2.ensures)
+    (next c.in_ok-push_bytes-4.ensures done))))))
