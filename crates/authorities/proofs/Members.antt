@@ -2,7 +2,7 @@ use Rattle.std.proofs.Common.{◌≡◌, ℕ, zero, suc, ◌+◌, ◌-◌, ◌*�
 use native.Mathlib.Nat.{zero-div, div_self, div-eq_of_lt, mul-mod_left}
 use lib.Bits.{bit_and, bit_or, and_shr, or_shr, and_mod, or_mod, and_step, and_zero_r, and_comm}
 use lib.Count.{ones, ones_step}
-use Rattle.std.specs.List.{ContainsAt as Has, AllByRecursion as All}
+use Rattle.std.specs.List.{ContainsAt as Has, AllByRecursion}
 use Rattle.std.proofs.lemmas.Nat.{pow_pos, pow-add, shl-shr, shr-shr, pow_below, div-add-mod', div_below}
 use Rattle.std.proofs.ByRecursion.{all-has, has_append_right}
 use Rattle.std.proofs.lemmas.Bool.{eqb-true, eq-eqb, ne_eqb, cases_order, cases_eq, cases_lt, and_parts, and_from, and_right, or_left, or_right, cond_both, both_ways, lt-ltb, ltb-true}
@@ -244,11 +244,11 @@ pub in_none : (a : ℕ) → in_set no_authorities a ≡ false
 in_none a = and_right (ltb a 64) (bit a 0) (ap (λ n. eqb (n % 2) 1) (zero-div (2 ^ a)))
 
 -- each listed member is in the set
-members_in : (s : Authorities) (a n : ℕ) → All (λ b. in_set s b ≡ true) (members_from s a n)
+members_in : (s : Authorities) (a n : ℕ) → AllByRecursion (λ b. in_set s b ≡ true) (members_from s a n)
 unfolding members_from
 members_in s a zero = tt
 members_in s a (suc n) =
-    cond_both (in_set s a) (a ∷ members_from s (suc a) n) (members_from s (suc a) n) (All (λ b. in_set s b ≡ true))
+    cond_both (in_set s a) (a ∷ members_from s (suc a) n) (members_from s (suc a) n) (AllByRecursion (λ b. in_set s b ≡ true))
     (λ e. (e, members_in s (suc a) n)) (λ _. members_in s (suc a) n)
 
 -- each of the n numbers from a on that is in the set is listed

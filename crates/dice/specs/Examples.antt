@@ -1,5 +1,5 @@
 use Rattle.std.specs.Prelude.{◌≡◌, ℕ, List, [], ◌∷◌, Ok, Err}
-use Rattle.std.specs.List.{AllByRecursion as All}
+use Rattle.std.specs.List.{AllByRecursion}
 use Rattle.refusals.specs.declared.Refusal.TheVariants.{Unknown}
 use Rattle.claims.specs.Bytes.{bounded}
 use Rattle.claims.specs.Environments.{no_environment, with_class}
@@ -35,4 +35,4 @@ ReadsSo x = reading x.message ≡ x.outcome
 
 -- each example is read as it says
 abbrev pub AllReadSo : Type 0
-AllReadSo = All ReadsSo examples
+AllReadSo = AllByRecursion ReadsSo examples

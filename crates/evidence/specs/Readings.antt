@@ -1,6 +1,6 @@
 use Rattle.std.specs.Prelude.{◌≡◌, ℕ, ◌≤◌, List, length, IfOk, IfErr}
 use Rattle.std.specs.Option.{ok_or}
-use Rattle.std.specs.List.{AllByRecursion as All, slice_get}
+use Rattle.std.specs.List.{AllByRecursion, slice_get}
 use Rattle.refusals.specs.Figures.{number}
 use Rattle.refusals.specs.Reading.{Outcome, onward, keeps}
 use Rattle.refusals.specs.declared.Refusal.TheVariants.{NoSuchNumber}
@@ -21,7 +21,7 @@ claim_at r n = onward r (λ cs. ok_or (slice_get cs n) (NoSuchNumber (length cs)
 
 -- every claim keeps its limits
 abbrev pub KeepsLimits : Reading → Type 0
-KeepsLimits r = IfOk r (All Within)
+KeepsLimits r = IfOk r (AllByRecursion Within)
 
 -- a reader refuses for an item or a record, and for nothing else
 abbrev pub RefusesAsReader : Reading → Type 0

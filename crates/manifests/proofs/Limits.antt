@@ -1,5 +1,5 @@
 use Rattle.std.proofs.Common.{◌≡◌, ℕ, ◌<◌, ◌≤◌, true, not, ltb, List, [], ◌∷◌, ◌++◌, map, length, IfOk, None, Ok, Err, sym, refl, ap, ◌∙◌, subst, arith}
-use Rattle.std.specs.List.{AllByRecursion as All}
+use Rattle.std.specs.List.{AllByRecursion}
 use Rattle.std.proofs.ByRecursion.{All-append, All-weaker}
 use Rattle.refusals.specs.Reading.{Outcome, onward, need}
 use Rattle.refusals.specs.declared.Refusal.TheVariants.{Malformed, Unknown}
@@ -45,7 +45,7 @@ endorsement_right : (signer : ℕ) (cs : Few Condition) (found : Few Condition) 
 endorsement_right signer cs found k some each = record { own = refl; within = record { conditions = k; additions = additions_within found each; counts = additions_some found some each } }
 
 abbrev Rights : ℕ → List Triple → Type 0
-Rights signer ts = All (Right signer) ts
+Rights signer ts = AllByRecursion (Right signer) ts
 
 one_right : {signer : ℕ} {rule : Rule Triple} → Yields (Right signer) rule → Yields (Rights signer) (one rule)
 one_right yields = sound_stores yields (λ t. t ∷ []) (λ t k. (k, tt))
@@ -89,8 +89,8 @@ read_as_written signer m =
     record {
       read = manifest_read signer m;
       written = manifest_written signer m;
-      signers = made_weaker (Rights signer) (All (λ t. t.signer ≡ signer)) (All-weaker (Right signer) (λ t. t.signer ≡ signer) (λ t k. k.own)) (triples_of signer m) right;
-      limits = made_weaker (Rights signer) (All WithinTriple) (All-weaker (Right signer) WithinTriple (λ t k. k.within)) (triples_of signer m) right;
+      signers = made_weaker (Rights signer) (AllByRecursion (λ t. t.signer ≡ signer)) (All-weaker (Right signer) (λ t. t.signer ≡ signer) (λ t k. k.own)) (triples_of signer m) right;
+      limits = made_weaker (Rights signer) (AllByRecursion WithinTriple) (All-weaker (Right signer) WithinTriple (λ t k. k.within)) (triples_of signer m) right;
       refusals = sound_refused (Rights signer) (triples_of signer m) (triples_right signer m);
     }
 

@@ -1,5 +1,5 @@
 use Rattle.std.specs.Prelude.{◌≡◌, ℕ, List, IfOk, IfErr, Ok}
-use Rattle.std.specs.List.{AllByRecursion as All}
+use Rattle.std.specs.List.{AllByRecursion}
 use Rattle.refusals.specs.Figures.{OfReader}
 use Rattle.refusals.specs.Reading.{onward}
 use Rattle.manifests.specs.Layout.{ManifestOf}
@@ -14,8 +14,8 @@ use Rattle.manifests.specs.declared.kinds.Triple.{Triple}
 pub record ReadAsWritten (signer : ℕ) (m : List ℕ) : Type 0 where
   pub read : (ts : List Triple) → triples_of signer m ≡ Ok ts → ManifestOf signer ts m
   pub written : (ts : List Triple) → ManifestOf signer ts m → triples_of signer m ≡ Ok ts
-  pub signers : IfOk (triples_of signer m) (All (λ t. t.signer ≡ signer))
-  pub limits : IfOk (triples_of signer m) (All WithinTriple)
+  pub signers : IfOk (triples_of signer m) (AllByRecursion (λ t. t.signer ≡ signer))
+  pub limits : IfOk (triples_of signer m) (AllByRecursion WithinTriple)
   pub refusals : IfErr (triples_of signer m) OfReader
 
 -- a walk gives the triples of the message, in their order, or its refusal: what is left at the beginning are all of them,

@@ -1,5 +1,5 @@
 use Rattle.std.proofs.Common.{◌≡◌, ℕ, ◌<◌, ◌≤◌, Bool, true, false, eqb, List, ◌++◌, length, take, drop, Decides, sym, refl, ap, ◌∙◌, ⊎_elim, append_assoc, arith}
-use Rattle.std.specs.List.{ContainsAt as Has, AllByRecursion as All, starts_with}
+use Rattle.std.specs.List.{ContainsAt as Has, AllByRecursion, starts_with}
 use Rattle.std.proofs.ByRecursion.{all-has, has_append_left, has_append_right}
 use Rattle.std.proofs.lemmas.Slice.Eq.{slice_eq-Decides, bytes_eq-Decides}
 use Rattle.std.proofs.lemmas.List.{take-append-drop, take_at}
@@ -78,7 +78,7 @@ grants_more gs before after a u c e =
     (s.0, has_append_right before (gs ++ after) s.0 (has_append_left gs after s.0 s.1), s.2)
 
 -- grants to authorities up to 63 permit none above
-pub grants_above : (gs : List Grant) (a : ℕ) (u : Use) (c : List ℕ) → All (λ g. g.authority < 64) gs → 64 ≤ a → grants_permit gs a u c ≡ false
+pub grants_above : (gs : List Grant) (a : ℕ) (u : Use) (c : List ℕ) → AllByRecursion (λ g. g.authority < 64) gs → 64 ≤ a → grants_permit gs a u c ≡ false
 grants_above gs a u c low h =
     ⊎_elim
     (λ (e : grants_permit gs a u c ≡ true).

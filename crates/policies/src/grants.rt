@@ -1,5 +1,5 @@
 ghost use Rattle.std.specs.Prelude.{◌≡◌, ◌<◌, ◌≤◌, true, false, List, ◌++◌, IfOk, Decides};
-ghost use Rattle.std.specs.List.{ContainsAt as Has, AllByRecursion as All};
+ghost use Rattle.std.specs.List.{ContainsAt as Has, AllByRecursion};
 ghost use Rattle.policies.specs.Grants.{begins, granted, fits, Fits, Wider, grants_permit};
 
 use crate::kinds::{Grant, Grants, Question, Use};
@@ -62,7 +62,7 @@ impl<'a> Policy for Grants<'a> {
         ensures value { result ≡ grants_permit self.now.grants.now authority usage class.now }
         ensures law { Decides result ((g : Grant) × Has self.now.grants.now g × Fits g authority usage class.now) }
         ensures more { (before after : List Grant) → result ≡ true → grants_permit (before ++ (self.now.grants.now ++ after)) authority usage class.now ≡ true }
-        ensures above { All (λ g. g.authority < 64) self.now.grants.now → 64 ≤ authority → result ≡ false }
+        ensures above { AllByRecursion (λ g. g.authority < 64) self.now.grants.now → 64 ≤ authority → result ≡ false }
     {
         let question = Question {
             authority,

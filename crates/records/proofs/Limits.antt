@@ -1,5 +1,5 @@
 use Rattle.std.proofs.Common.{◌≡◌, ℕ, ◌+◌, ◌<◌, ◌≤◌, Bool, true, false, not, ◌||◌, ltb, List, [], ◌∷◌, map, length, get_or, take, set, replicate, is_some, Some, None, Ok, Err, Option, sym, refl, ap, ◌∙◌, subst, inl, inr, arith, length-set, MatchResult}
-use Rattle.std.specs.List.{AllByRecursion as All}
+use Rattle.std.specs.List.{AllByRecursion}
 use Rattle.std.proofs.ByRecursion.{All-more, All-map, All-weaker}
 use Rattle.std.proofs.lemmas.List.{take-set, get_or-set_same, length-take-le}
 use Rattle.std.proofs.lemmas.Bool.{both_ways, cond-true, cond-false, ltb-true, cases_Bool}
@@ -47,13 +47,13 @@ joined_each {T = T} P s x w h = elim (cases_Bool (room s)) [
         few = omega arith;
         long = length-set s.places s.count x ∙ w.long;
         all = All-more P (set s.places s.count x) s.count x (rw (length-set s.places s.count x) (omega (arith, w.long)))
-            (subst (λ (l : List T). All P l) (sym (take-set s.places s.count x)) w.all)
+            (subst (λ (l : List T). AllByRecursion P l) (sym (take-set s.places s.count x)) w.all)
             (subst P (sym (get_or-set_same s.places s.count x x (omega (arith, w.long)))) h);
       })
   | inr full ↦ subst (λ (t : Few T). Each P t) (sym (cond-false (room s) _ s full)) w
 ]
 
-pub joined_all_lem : {T : Type 0} (P : T → Type 0) (s : Few T) (xs : List T) → Each P s → All P xs → Each P (joined_all s xs)
+pub joined_all_lem : {T : Type 0} (P : T → Type 0) (s : Few T) (xs : List T) → Each P s → AllByRecursion P xs → Each P (joined_all s xs)
 joined_all_lem P s [] w h = w
 joined_all_lem P s (x ∷ xs) w h = joined_all_lem P (joined s x) xs (joined_each P s x w h.0) h.1
 

@@ -1,5 +1,5 @@
 use Rattle.std.specs.Prelude.{◌≡◌, ℕ, ◌≤◌, length}
-use Rattle.std.specs.List.{AllByRecursion as All}
+use Rattle.std.specs.List.{AllByRecursion}
 use Rattle.conditions.specs.Limits.{WithinCondition}
 use Rattle.conditions.specs.declared.kinds.Condition.{Condition}
 use Rattle.records.specs.Few.{members}
@@ -9,7 +9,7 @@ use Rattle.records.specs.declared.kinds.Few.{Few}
 pub record Each {T : Type 0} (P : T → Type 0) (s : Few T) : Type 0 where
   pub few : s.count ≤ 4
   pub long : length s.places ≡ 4
-  pub all : All P (members s)
+  pub all : AllByRecursion P (members s)
 
 -- one to four conditions, each within its limits
 pub record WithinConditions (s : Few Condition) : Type 0 where

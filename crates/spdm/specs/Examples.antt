@@ -1,5 +1,5 @@
 use Rattle.std.specs.Prelude.{◌≡◌, ℕ, List, [], ◌∷◌, length, Ok, Err}
-use Rattle.std.specs.List.{AllByRecursion as All}
+use Rattle.std.specs.List.{AllByRecursion}
 use Rattle.refusals.specs.Reading.{onward}
 use Rattle.refusals.specs.declared.Refusal.TheVariants.{Malformed}
 use Rattle.claims.specs.Bytes.{bounded}
@@ -44,4 +44,4 @@ ReadsSo x = onward (setup_of x.class x.algorithm) (λ s. reading s x.message) �
 
 -- each example is read as it says
 abbrev pub AllReadSo : Type 0
-AllReadSo = All ReadsSo examples
+AllReadSo = AllByRecursion ReadsSo examples

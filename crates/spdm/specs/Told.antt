@@ -1,6 +1,6 @@
 use Rattle.std.specs.Prelude.{◌≡◌, ℕ, zero, suc, ◌+◌, ◌-◌, ◌<◌, ◌≤◌, Bool, true, false, cond, List, [], ◌∷◌, ◌++◌, length, drop, Some, None, Ok, Err, Option, Result, refl}
 use Rattle.std.proofs.Common.{sym, ap, subst, ◌∙◌, append_assoc, arith, add-zero}
-use Rattle.std.specs.List.{AllByRecursion as All}
+use Rattle.std.specs.List.{AllByRecursion}
 use Rattle.std.proofs.lemmas.List.{append-nil, length-append}
 use Rattle.refusals.specs.Figures.{number}
 use Rattle.refusals.specs.Reading.{Outcome, onward, keeps, need, or_refuse, above}
@@ -214,7 +214,7 @@ read_as_rows s m = record {
 
 -- what every format keeps to
 
-row_within : (s : Setup) (last to : Option ℕ) (cs : List Claim) (m : List ℕ) → Holds 1 s.class → Row s last cs to m → All Within cs
+row_within : (s : Setup) (last to : Option ℕ) (cs : List Claim) (m : List ℕ) → Holds 1 s.class → Row s last cs to m → AllByRecursion Within cs
 row_within s last to _ _ holds none = tt
 row_within s last to _ _ holds (more {b = b} {c = c} {cs = cs} {m = front} w r k row) = (makes_within s b c holds k, row_within s (Some b.index) to cs front holds row)
 
