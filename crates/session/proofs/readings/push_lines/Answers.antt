@@ -8,7 +8,7 @@ use Rattle.session.proofs.readings.push_lines.Goals as goal
 pub loop-n-preserved : goal.loop-n-preserved
 loop-n-preserved g c =
     lines_more (g.F.Format.reads c.args.format.now c.args.message.now) c.loop-n.n (string_bytes c.args.out.now) (string_bytes c.loop-n.out)
-    (string_bytes c.push-nth.new.out) (omega arith) c.loop-n.invariant c.in-ok-push-nth.ensures
+    (string_bytes c.push_nth.new.out) (omega arith) c.loop-n.invariant c.in_ok-push_nth.ensures
 
 pub returns : goal.returns
 returns g c =

@@ -7,7 +7,7 @@ use Rattle.session.proofs.readings.push_reading.Goals as goal
 pub returns : goal.returns
 returns g c =
     let told = reading_told (g.F.Format.reads c.args.format.now) c.args.message.now c.in-Ok.count (sym c.in-Ok.ensures) in
-    appended (string_bytes c.args.out.now) (string_bytes c.push-lines.new.out)
+    appended (string_bytes c.args.out.now) (string_bytes c.push_lines.new.out)
     (heading c.in-Ok.count ∷ claim_lines (claims_of (g.F.Format.reads c.args.format.now c.args.message.now)) ∷ [])
-    (next c.in-ok-push-heading.ensures (next c.in-ok-push-lines.ensures done))
+    (next c.in_ok-push_heading.ensures (next c.in_ok-push_lines.ensures done))
     ∙ ap (λ (t : List ℕ). string_bytes c.args.out.now ++ t) (sym told.1)
