@@ -28,7 +28,7 @@ fn push_nth<F: Format>(
     message: &[u8],
     n: usize,
 ) -> Result<(), AllocError>
-    ensures { Appends result (string_bytes out.old) (string_bytes out.new) (line_of (claim_at (reads format.now message.now) n)) }
+    ensures { Appends result (string_bytes out.old) (string_bytes out.new) (line_of (claim_at (F.reads format.now message.now) n)) }
 {
     match format.claim(message, n) {
         Ok(claim) => push_line(out, &claim),
@@ -43,8 +43,8 @@ fn push_lines<F: Format>(
     message: &[u8],
     count: usize,
 ) -> Result<(), AllocError>
-    requires { count ≡ length (claims_of (reads format.now message.now)) }
-    ensures { Appends result (string_bytes out.old) (string_bytes out.new) (claim_lines (claims_of (reads format.now message.now))) }
+    requires { count ≡ length (claims_of (F.reads format.now message.now)) }
+    ensures { Appends result (string_bytes out.old) (string_bytes out.new) (claim_lines (claims_of (F.reads format.now message.now))) }
 {
     for n in 0..count {
         push_nth(out, format, message, n)?;
@@ -64,7 +64,7 @@ fn push_heading(out: &mut String, count: usize) -> Result<(), AllocError>
 
 // How many claims a message has, which is of a length that may be read.
 fn count_admitted<F: Format>(format: &F, message: &[u8]) -> Result<usize, Refusal>
-    ensures { result ≡ keeps (heard_by (reads format.now) message.now) length }
+    ensures { result ≡ keeps (heard_by (F.reads format.now) message.now) length }
 {
     admit(message)?;
     format.count(message)
@@ -76,7 +76,7 @@ pub fn push_reading<F: Format>(
     format: &F,
     message: &[u8],
 ) -> Result<(), AllocError>
-    ensures { Appends result (string_bytes out.old) (string_bytes out.new) (reading_text (heard_by (reads format.now) message.now)) }
+    ensures { Appends result (string_bytes out.old) (string_bytes out.new) (reading_text (heard_by (F.reads format.now) message.now)) }
 {
     let count = match count_admitted(format, message) {
         Ok(count) => count,
