@@ -1,6 +1,6 @@
 use Rattle.std.proofs.Common.{◌≡◌, ℕ, zero, suc, ◌+◌, ◌<◌, ◌≤◌, Bool, true, cond, eqb, ltb, leb, None, Ok, Err, Option, arith}
 use Rattle.std.proofs.lemmas.Bool.{eqb-true, leb-true, ltb-true}
-use Rattle.refusals.specs.Reading.{Outcome, onward, keeps, need, or_refuse, above}
+use Rattle.refusals.specs.Reading.{Outcome, onward, need, or_refuse, above}
 use Rattle.refusals.specs.declared.Refusal.{Refusal}
 use Rattle.refusals.specs.declared.Refusal.TheVariants.{Malformed, Unknown, OutOfLimits, Missing}
 use Rattle.claims.specs.Bytes.{kept_from}

@@ -16,7 +16,7 @@ use Rattle.cbor.specs.declared.kinds.Head.{Head}
 use Rattle.cbor.specs.Heads.{head_of}
 use Rattle.cbor.specs.Items.{Shape, is_bytes, is_text}
 use Rattle.cbor.specs.Scalars.{Rule, stores, item_as, text_at, bytes_at}
-use Rattle.cbor.specs.Encodes.{Headed, behind, String, string, Content, content, Made, made}
+use Rattle.cbor.specs.Encodes.{Headed, String, string, Content, content, Made, made}
 use Rattle.cbor.specs.Reads.{Begins, Reads}
 use Rattle.cbor.proofs.Written.{head_written}
 use Rattle.cbor.proofs.Back.{HeadIs, head_back}

@@ -1,4 +1,4 @@
-use Rattle.std.specs.Prelude.{ℕ, ◌+◌, Bool, true, false, cond, ◌&&◌, List, length, Some, None, Option, ◌==◌, nat_le}
+use Rattle.std.specs.Prelude.{ℕ, ◌+◌, Bool, true, false, cond, ◌&&◌, length, Some, None, Option, ◌==◌, nat_le}
 use Rattle.parts.specs.Parts.{Piece, piece, after, front}
 use Rattle.cbor.specs.Heads.{head_of}
 use Rattle.cbor.specs.declared.kinds.Head.{Head}

@@ -1,4 +1,4 @@
-use Rattle.std.specs.Prelude.{◌≡◌, ℕ, ◌≤◌, true, IfSome}
+use Rattle.std.specs.Prelude.{◌≡◌, ◌≤◌, true, IfSome}
 use Rattle.claims.specs.Limits.{WithinEnvironment, ValuesFit}
 use Rattle.conditions.specs.Wanted.{some_wanted}
 use Rattle.conditions.specs.declared.kinds.Condition.{Condition}

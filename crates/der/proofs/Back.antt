@@ -1,4 +1,4 @@
-use Rattle.std.proofs.Common.{◌≡◌, ℕ, zero, suc, ◌+◌, ◌-◌, ◌%◌, ◌<◌, ◌≤◌, min, Bool, true, false, cond, ◌&&◌, eqb, ltb, leb, ◌⊎◌, List, [], ◌∷◌, ◌++◌, length, get_or, take, drop, Some, None, Ok, Option, sym, refl, ap, ◌∙◌, subst, inl, inr, append_assoc, arith}
+use Rattle.std.proofs.Common.{◌≡◌, ℕ, zero, suc, ◌+◌, ◌-◌, ◌%◌, ◌<◌, ◌≤◌, min, Bool, true, false, cond, ◌&&◌, eqb, ltb, leb, List, [], ◌∷◌, ◌++◌, length, get_or, take, drop, Some, None, Ok, Option, sym, refl, ap, ◌∙◌, subst, inl, inr, append_assoc, arith}
 use Rattle.std.proofs.lemmas.List.{length-append, length-take-le, length-drop, take_at, drop_at, take-append-drop, get_or-take, nil_from_length}
 use Rattle.std.proofs.lemmas.Bool.{and_parts, eqb-true, eqb-false, leb-true, ltb-true, ltb-false}
 use Rattle.claims.proofs.Kept.{some_if}
@@ -6,7 +6,6 @@ use Rattle.der.specs.declared.kinds.Size.{Size}
 use Rattle.der.specs.declared.kinds.Head.{Head}
 use Rattle.parts.specs.declared.kinds.Read.{Read}
 use Rattle.refusals.specs.Reading.{Outcome}
-use Rattle.std.specs.Option.{option_map}
 use Rattle.parts.specs.Numbers.{big}
 use Rattle.der.specs.Heads.{with, long_tag, long_size, size_of, head_of, tag_width}
 use Rattle.parts.specs.Parts.{Piece, front, after as behind}

@@ -1,6 +1,5 @@
-use Rattle.std.specs.Prelude.{ℕ, ◌+◌, cond, List, Some, None, Option, ◌==◌}
+use Rattle.std.specs.Prelude.{ℕ, ◌+◌, cond, Option, ◌==◌}
 use Rattle.std.specs.Option.{option_map}
-use Rattle.der.specs.declared.kinds.Head.{Head}
 use Rattle.der.specs.declared.kinds.Item.{Item}
 use Rattle.der.specs.declared.kinds.Item.TheVariants.{Boolean, Octets, Identifier, Sequence, Field}
 use Rattle.der.specs.declared.kinds.Taken.{Taken}

@@ -1,5 +1,5 @@
-use Rattle.std.specs.Prelude.{ℕ, ◌-◌, Bool, ◌&&◌, ◌||◌, List, length, Some, None, Ok, Option, ◌==◌, slice_index}
-use Rattle.refusals.specs.Reading.{Outcome, onward, need, or_refuse}
+use Rattle.std.specs.Prelude.{ℕ, Bool, ◌&&◌, ◌||◌, List, length, Some, None, Ok, Option, ◌==◌, slice_index}
+use Rattle.refusals.specs.Reading.{Outcome, need, or_refuse}
 use Rattle.refusals.specs.declared.Refusal.TheVariants.{Malformed, OutOfLimits}
 use Rattle.der.specs.declared.kinds.Held.{Held}
 use Rattle.der.specs.Items.{Shape, boolean, octets, identifier, sequence, field, item_of}

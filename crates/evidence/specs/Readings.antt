@@ -1,4 +1,4 @@
-use Rattle.std.specs.Prelude.{◌≡◌, ℕ, ◌≤◌, List, length, IfOk, IfErr}
+use Rattle.std.specs.Prelude.{ℕ, ◌≤◌, List, length, IfOk, IfErr}
 use Rattle.std.specs.Option.{ok_or}
 use Rattle.std.specs.List.{AllByRecursion, slice_get}
 use Rattle.refusals.specs.Figures.{number}

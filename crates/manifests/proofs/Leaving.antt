@@ -1,4 +1,4 @@
-use Rattle.std.proofs.Common.{◌≡◌, ℕ, zero, suc, ◌+◌, ◌-◌, ◌<◌, Bool, true, false, cond, not, ltb, List, [], ◌∷◌, ◌++◌, length, Some, None, Ok, Err, Option, sym, refl, ap, ◌∙◌, inl, inr, append_assoc, arith}
+use Rattle.std.proofs.Common.{◌≡◌, ℕ, ◌+◌, ◌-◌, ◌<◌, Bool, true, false, cond, not, ltb, List, [], ◌∷◌, ◌++◌, length, Some, None, Ok, Err, Option, sym, refl, ap, ◌∙◌, inl, inr, arith}
 use Rattle.std.proofs.lemmas.Bool.{cases_Bool, cond-true, cond-false, ltb-true, ltb-false}
 use Rattle.std.proofs.lemmas.List.{append-nil}
 use Rattle.refusals.specs.Reading.{Outcome, onward, keeps, need, or_refuse, above}
@@ -20,7 +20,7 @@ use Rattle.manifests.specs.declared.kinds.Section.TheVariants.{References, Endor
 use Rattle.manifests.specs.declared.kinds.Step.{Step}
 use Rattle.manifests.specs.declared.kinds.Triple.{Triple}
 use Rattle.manifests.specs.Triples.{one, collects, reference_at, reference_record, endorsement_record, conditional_pair, section_of, element_of, triples_under, triples_of}
-use Rattle.manifests.specs.Walks.{entries_left, elements_left, left, further, array_some, ahead_of, begun, in_entry, in_record, past_element, past_map, map_step, element_step, record_step, section_step, entry_step, some, step_from}
+use Rattle.manifests.specs.Walks.{entries_left, elements_left, left, further, array_some, ahead_of, begun, in_entry, in_record, past_element, map_step, element_step, record_step, section_step, entry_step, some, step_from}
 use Rattle.manifests.proofs.Collected.{keeps_twice, keeps_same, keeps_onward, onward_keeps, onward_same, onward_twice, grown, counted_behind, counted_view, collects_front, counted_front, front_onward}
 
 -- a test or a choice before what is found

@@ -1,11 +1,10 @@
-use Rattle.std.proofs.Common.{◌≡◌, ℕ, ◌<◌, ◌≤◌, true, not, ltb, List, [], ◌∷◌, ◌++◌, map, length, IfOk, None, Ok, Err, sym, refl, ap, ◌∙◌, subst, arith}
+use Rattle.std.proofs.Common.{◌≡◌, ℕ, ◌≤◌, not, ltb, List, [], ◌∷◌, ◌++◌, length, IfOk, Ok, Err, refl, arith}
 use Rattle.std.specs.List.{AllByRecursion}
 use Rattle.std.proofs.ByRecursion.{All-append, All-weaker}
-use Rattle.refusals.specs.Reading.{Outcome, onward, need}
+use Rattle.refusals.specs.Reading.{Outcome}
 use Rattle.refusals.specs.declared.Refusal.TheVariants.{Malformed, Unknown}
 use Rattle.claims.specs.Claims.{no_claim}
-use Rattle.claims.specs.Limits.{WithinEnvironment, Within}
-use Rattle.claims.specs.declared.kinds.Environment.{Environment}
+use Rattle.claims.specs.Limits.{Within}
 use Rattle.conditions.specs.Limits.{WithinCondition}
 use Rattle.conditions.specs.Wanted.{no_condition}
 use Rattle.conditions.specs.declared.kinds.Condition.{Condition}
@@ -16,13 +15,13 @@ use Rattle.cbor.specs.Scalars.{Rule}
 use Rattle.cbor.proofs.Limits.{Of, Yields, sound_stores, sound_then, sound_array_of, sound_array, sound_map}
 use Rattle.measurements.specs.Measurements.{in_condition, in_addition}
 use Rattle.records.specs.Additions.{additions_of}
-use Rattle.records.specs.Few.{few_of, joined}
+use Rattle.records.specs.Few.{few_of}
 use Rattle.records.specs.Limits.{Each, WithinConditions}
 use Rattle.records.specs.declared.kinds.Few.{Few}
 use Rattle.records.proofs.Limits.{Rightly, none_each, joined_each, condition_limits, head_limits, maps_limits, records_limits, conditions_within, additions_within, additions_some}
 use Rattle.manifests.specs.Laws.{ReadAsWritten, WalkedWhole}
 use Rattle.manifests.specs.Limits.{WithinTriple}
-use Rattle.manifests.specs.Triples.{alone, only_condition, reference_of, endorsement_of, one, collects, reference_at, reference_record, endorsement_record, conditional_pair, section_of, element_of, triples_under, manifest_map, triples_of}
+use Rattle.manifests.specs.Triples.{alone, only_condition, reference_of, endorsement_of, one, collects, reference_at, section_of, element_of, triples_under, manifest_map, triples_of}
 use Rattle.manifests.specs.declared.kinds.Section.{Section}
 use Rattle.manifests.specs.declared.kinds.Section.TheVariants.{References, Endorsements, Conditionals}
 use Rattle.manifests.specs.declared.kinds.Triple.{Triple}

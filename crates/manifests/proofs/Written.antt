@@ -1,15 +1,14 @@
-use Rattle.std.proofs.Common.{◌≡◌, ℕ, List, [], ◌∷◌, ◌++◌, length, Some, None, Ok, Err, Option, sym, refl, ap, ◌∙◌, subst}
-use Rattle.refusals.specs.Reading.{Outcome, or_refuse}
+use Rattle.std.proofs.Common.{◌≡◌, ℕ, List, [], ◌∷◌, ◌++◌, length, Ok, Option, refl, ap, ◌∙◌}
+use Rattle.refusals.specs.Reading.{or_refuse}
 use Rattle.refusals.specs.declared.Refusal.TheVariants.{Unknown}
 use Rattle.refusals.proofs.Outcomes.{or_refuse_back}
-use Rattle.claims.specs.declared.kinds.Environment.{Environment}
 use Rattle.conditions.specs.Wanted.{no_condition}
 use Rattle.parts.specs.Parts.{Piece}
 use Rattle.parts.specs.declared.kinds.Read.{Read}
 use Rattle.cbor.specs.Encodes.{ArrayOf}
 use Rattle.cbor.specs.Holders.{array_by}
 use Rattle.cbor.specs.Reads.{Begins, Reads}
-use Rattle.cbor.specs.Scalars.{Rule, stores}
+use Rattle.cbor.specs.Scalars.{Rule}
 use Rattle.cbor.proofs.Joins.{begins_as, reads_stores, reads_then}
 use Rattle.cbor.proofs.Rows.{reads_array, reads_map}
 use Rattle.cbor.proofs.Rules.{reads_array_of}

@@ -1,7 +1,6 @@
 use Rattle.std.specs.Prelude.{◌≡◌, ℕ, List, [], ◌∷◌, ◌++◌, Some, nat_eq}
 use Rattle.claims.specs.declared.kinds.Environment.{Environment}
 use Rattle.conditions.specs.Wanted.{no_condition}
-use Rattle.conditions.specs.declared.kinds.Condition.{Condition}
 use Rattle.cbor.specs.Encodes.{Headed, ArrayOf, MapOf, Then, Stored, Such}
 use Rattle.measurements.specs.Measurements.{in_condition, in_addition}
 use Rattle.records.specs.Additions.{additions_of}

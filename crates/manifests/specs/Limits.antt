@@ -1,4 +1,4 @@
-use Rattle.std.specs.Prelude.{◌≡◌, ℕ, ◌≤◌}
+use Rattle.std.specs.Prelude.{◌≡◌, ◌≤◌}
 use Rattle.claims.specs.Limits.{Within}
 use Rattle.records.specs.Limits.{Each, WithinConditions}
 use Rattle.manifests.specs.declared.kinds.Sort.{Sort}

@@ -4,7 +4,6 @@ use Rattle.refusals.specs.declared.Refusal.TheVariants.{Malformed, Unknown, Miss
 use Rattle.claims.specs.Environments.{no_environment}
 use Rattle.claims.specs.declared.kinds.Environment.{Environment}
 use Rattle.parts.specs.Parts.{Piece, whole_of, after}
-use Rattle.parts.specs.declared.kinds.Read.{Read}
 use Rattle.cbor.specs.Holders.{counted_from, entry_at}
 use Rattle.cbor.specs.Scalars.{Rule, number_at, array_at, map_at}
 use Rattle.records.specs.Records.{record_head}

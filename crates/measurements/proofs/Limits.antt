@@ -1,11 +1,11 @@
-use Rattle.std.proofs.Common.{◌≡◌, ℕ, ◌<◌, ◌≤◌, Bool, true, false, not, ◌&&◌, ◌||◌, eqb, ltb, leb, List, length, is_some, IfSome, Some, None, Ok, Err, Option, sym, refl, ap, ◌∙◌, subst, inl, inr, arith, length-set}
+use Rattle.std.proofs.Common.{◌≡◌, ℕ, ◌≤◌, Bool, true, eqb, ltb, leb, length, is_some, IfSome, Some, None, Ok, sym, refl, ◌∙◌, subst, inl, inr, arith, length-set}
 use Rattle.std.proofs.lemmas.Bool.{leb-true, eqb-true, and_parts, cases_Bool}
-use Rattle.refusals.specs.Reading.{Outcome, onward, need, or_refuse, above}
+use Rattle.refusals.specs.Reading.{or_refuse, above}
 use Rattle.refusals.specs.declared.Refusal.TheVariants.{Malformed, Unknown, OutOfLimits, Missing}
 use Rattle.refusals.proofs.Outcomes.{found_some}
 use Rattle.claims.specs.Digests.{algorithm_of, no_digests, with_digest}
 use Rattle.claims.specs.Environments.{no_environment}
-use Rattle.claims.specs.Limits.{Holds, some_field, EnvironmentFits, WithinEnvironment, WithinDigests, ValuesFit}
+use Rattle.claims.specs.Limits.{Holds, EnvironmentFits, WithinEnvironment, WithinDigests, ValuesFit}
 use Rattle.claims.specs.Values.{no_flags, with_version, with_svn, with_digests, with_flags, with_raw}
 use Rattle.claims.specs.declared.kinds.Algorithm.{Algorithm}
 use Rattle.claims.specs.declared.kinds.Digests.{Digests}
@@ -17,13 +17,11 @@ use Rattle.conditions.specs.Limits.{WantedFits, WithinWanted}
 use Rattle.conditions.specs.Wanted.{no_wanted, some_wanted}
 use Rattle.conditions.specs.declared.kinds.Wanted.{Wanted}
 use Rattle.parts.specs.Parts.{Piece, after}
-use Rattle.parts.specs.declared.kinds.Read.{Read}
-use Rattle.refusals.specs.Figures.{OfReader}
-use Rattle.parts.proofs.Sound.{Sound, sound_onward, sound_need, sound_or_refuse}
+use Rattle.parts.proofs.Sound.{Sound, sound_need, sound_or_refuse}
 use Rattle.cbor.specs.Items.{Shape, unsigned, bytes, text, array, map, tag, truth, item_of, is_unsigned, is_bytes, is_tag}
-use Rattle.cbor.specs.Scalars.{Rule, stores, number_at, number_to, tag_at}
-use Rattle.cbor.proofs.Limits.{Of, Yields, Any, sound_item, sound_by, sound_such, sound_stores, sound_then, sound_number, sound_truth, sound_number_to, sound_array_of, sound_text, sound_tagged_bytes, sound_field, sound_where, sound_unknown, sound_array, sound_map, sound_map_brings}
-use Rattle.measurements.specs.Digests.{fresh, algorithm_at, digest_bytes, digest_pair, digest_at, digest_array}
+use Rattle.cbor.specs.Scalars.{stores, number_to}
+use Rattle.cbor.proofs.Limits.{Of, Yields, Any, sound_item, sound_by, sound_stores, sound_then, sound_number, sound_truth, sound_number_to, sound_array_of, sound_text, sound_tagged_bytes, sound_field, sound_where, sound_unknown, sound_array, sound_map, sound_map_brings}
+use Rattle.measurements.specs.Digests.{fresh, algorithm_at, digest_bytes, digest_at, digest_array}
 use Rattle.measurements.specs.Environments.{in_class, in_environment, class_field, class_map, environment_field, environment_map}
 use Rattle.measurements.specs.Flags.{flag_field, flag_map}
 use Rattle.measurements.specs.Listed.{none_listed, authority_at, authority_array}

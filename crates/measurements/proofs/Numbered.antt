@@ -1,14 +1,14 @@
-use Rattle.std.proofs.Common.{◌≡◌, ℕ, ◌+◌, ◌<◌, ◌≤◌, Bool, true, false, cond, ◌&&◌, ◌||◌, eqb, leb, List, ◌++◌, length, Some, None, Ok, Err, Option, sym, refl, ap, ◌∙◌, subst, inl, inr, arith}
+use Rattle.std.proofs.Common.{◌≡◌, ℕ, Bool, true, false, ◌&&◌, eqb, leb, List, ◌++◌, length, Some, Ok, Option, sym, refl, ap, ◌∙◌, subst, inl, inr, arith}
 use Rattle.std.proofs.lemmas.Bool.{and_parts, or_cases, eqb-true, le-leb, leb-true}
-use Rattle.refusals.specs.Reading.{Outcome, onward, keeps, need, or_refuse}
+use Rattle.refusals.specs.Reading.{Outcome, need, or_refuse}
 use Rattle.refusals.specs.declared.Refusal.TheVariants.{Malformed, OutOfLimits}
 use Rattle.refusals.proofs.Outcomes.{ok_same, some_same, or_refuse_back}
 use Rattle.parts.specs.Parts.{Piece}
 use Rattle.parts.specs.declared.kinds.Read.{Read}
-use Rattle.cbor.specs.Encodes.{Headed, Number, number, Tagged, tagged, Then, both, Stored, stored, Such}
+use Rattle.cbor.specs.Encodes.{Headed, Number, number, tagged, Then, both, Stored, stored, Such}
 use Rattle.cbor.specs.Items.{Shape, unsigned, bytes, text, array, map, tag, truth, Front, item_of, is_unsigned, is_tag}
-use Rattle.cbor.specs.Reads.{Begins, Reads}
-use Rattle.cbor.specs.Scalars.{Rule, stores, item_as, number_at, number_to, tag_at}
+use Rattle.cbor.specs.Reads.{Reads}
+use Rattle.cbor.specs.Scalars.{item_as}
 use Rattle.cbor.proofs.Fields.{Back, stores_back}
 use Rattle.cbor.proofs.Joins.{begins_as, reads_such_stores, first_written}
 use Rattle.cbor.proofs.Rules.{reads_number, reads_number_to, reads_tag}

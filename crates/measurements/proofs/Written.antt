@@ -1,37 +1,30 @@
-use Rattle.std.proofs.Common.{◌≡◌, ℕ, ◌+◌, ◌<◌, ◌≤◌, Bool, true, false, cond, ◌&&◌, ◌||◌, eqb, ltb, leb, List, ◌++◌, length, Some, None, Ok, Err, Option, sym, refl, ap, ◌∙◌, subst, inl, inr, arith}
-use Rattle.std.proofs.lemmas.Bool.{and_parts, and_from, or_cases, eqb-true, eq-eqb, lt-ltb, ltb-true, le-leb, leb-true}
-use Rattle.refusals.specs.Reading.{Outcome, onward, keeps, need, above}
-use Rattle.refusals.specs.declared.Refusal.{Refusal}
-use Rattle.refusals.specs.declared.Refusal.TheVariants.{Malformed, Unknown, OutOfLimits, Missing}
+use Rattle.std.proofs.Common.{◌≡◌, ℕ, ltb, List, ◌++◌, length, Ok, ap, ◌∙◌, subst}
+use Rattle.std.proofs.lemmas.Bool.{lt-ltb, ltb-true}
+use Rattle.refusals.specs.Reading.{Outcome, need, above}
+use Rattle.refusals.specs.declared.Refusal.TheVariants.{Unknown, OutOfLimits}
 use Rattle.refusals.proofs.Outcomes.{need_back, need_true, ok_same}
-use Rattle.authorities.specs.declared.kinds.Authorities.{Authorities}
 use Rattle.claims.specs.Digests.{algorithm_of, no_digests, with_digest}
 use Rattle.claims.specs.Environments.{no_environment}
 use Rattle.claims.specs.Values.{no_flags}
 use Rattle.claims.specs.declared.kinds.Digests.{Digests}
 use Rattle.claims.specs.declared.kinds.Environment.{Environment}
-use Rattle.conditions.specs.Wanted.{no_wanted, some_wanted}
-use Rattle.conditions.specs.declared.kinds.Wanted.{Wanted}
 use Rattle.parts.specs.Parts.{Piece}
 use Rattle.parts.specs.declared.kinds.Read.{Read}
-use Rattle.cbor.specs.Encodes.{Headed, Number, number, Truth, String, Content, Tagged, tagged, ArrayOf, MapOf, Then, Made, Stored, Such}
-use Rattle.cbor.specs.Holders.{Under, map_by, array_by}
+use Rattle.cbor.specs.Encodes.{Headed}
 use Rattle.cbor.specs.Reads.{Reads}
-use Rattle.cbor.specs.Scalars.{Rule, stores, number_at, array_of}
 use Rattle.cbor.proofs.Fields.{Back, stores_back, need_field, field_next, field_none}
-use Rattle.cbor.proofs.Joins.{reads_made, reads_such, reads_stores, reads_then, reads_by}
+use Rattle.cbor.proofs.Joins.{reads_made, reads_stores, reads_then, reads_by}
 use Rattle.cbor.proofs.Rows.{reads_array, reads_map}
 use Rattle.cbor.proofs.Rules.{reads_number, reads_number_to, reads_array_of, reads_truth}
 use Rattle.cbor.proofs.Strings.{reads_text, reads_content_made}
 use Rattle.cbor.proofs.Tags.{reads_tagged_bytes}
-use Rattle.measurements.specs.Digests.{fresh, algorithm_at, digest_bytes, digest_pair, digest_at, digest_array}
+use Rattle.measurements.specs.Digests.{fresh, digest_pair, digest_at, digest_array}
 use Rattle.measurements.specs.Environments.{in_class, in_environment, class_field, class_map, environment_field, environment_map}
 use Rattle.measurements.specs.Flags.{flag_field, flag_map}
 use Rattle.measurements.specs.Layout.{ClassField, identifier, vendor, model, layer, index, ClassOf, EnvironmentField, class, instance, EnvironmentOf, DigestPair, OneDigest, DigestsOf, FlagField, flag, FlagsOf, OneAuthority, authority, AuthoritiesOf}
 use Rattle.measurements.specs.Listed.{none_listed, listing, authority_at, authority_array}
 use Rattle.measurements.specs.declared.kinds.InAuthorities.{InAuthorities}
 use Rattle.measurements.specs.declared.kinds.InClass.{InClass}
-use Rattle.measurements.specs.declared.kinds.InDigests.{InDigests}
 use Rattle.measurements.specs.declared.kinds.InEnvironment.{InEnvironment}
 use Rattle.measurements.specs.declared.kinds.InFlags.{InFlags}
 

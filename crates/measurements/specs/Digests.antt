@@ -1,4 +1,4 @@
-use Rattle.std.specs.Prelude.{ℕ, cond, Some, None, Ok, Option}
+use Rattle.std.specs.Prelude.{cond, Some, None, Ok, Option}
 use Rattle.refusals.specs.Reading.{onward, or_refuse}
 use Rattle.refusals.specs.declared.Refusal.TheVariants.{Unknown, OutOfLimits}
 use Rattle.claims.specs.Digests.{algorithm_of, no_digests, with_digest, has_digest}

@@ -1,4 +1,4 @@
-use Rattle.std.specs.Prelude.{ℕ, cond, Err, ◌==◌}
+use Rattle.std.specs.Prelude.{cond, Err, ◌==◌}
 use Rattle.refusals.specs.declared.Refusal.TheVariants.{Unknown}
 use Rattle.claims.specs.Environments.{no_environment, with_class, with_vendor, with_model, with_layer, with_index, with_instance}
 use Rattle.claims.specs.declared.kinds.Environment.{Environment}

@@ -1,10 +1,9 @@
-use Rattle.std.specs.Prelude.{◌≡◌, ℕ, ◌<◌, ◌≤◌, Bool, true, not, List, Some, None, nat_eq}
+use Rattle.std.specs.Prelude.{◌≡◌, ℕ, ◌<◌, Bool, true, List, Some, None, nat_eq}
 use Rattle.refusals.specs.Reading.{above}
 use Rattle.authorities.specs.declared.kinds.Authorities.{Authorities}
 use Rattle.claims.specs.Digests.{algorithm_of, no_digests, with_digest}
 use Rattle.claims.specs.Environments.{no_environment, with_class, with_vendor, with_model, with_layer, with_index, with_instance}
 use Rattle.claims.specs.Values.{no_flags, with_version, with_digests, with_flags, with_raw}
-use Rattle.claims.specs.declared.kinds.Algorithm.{Algorithm}
 use Rattle.claims.specs.declared.kinds.Bytes.{Bytes}
 use Rattle.claims.specs.declared.kinds.Digests.{Digests}
 use Rattle.claims.specs.declared.kinds.Environment.{Environment}

@@ -1,4 +1,4 @@
-use Rattle.std.specs.Prelude.{ℕ, Bool, true, false, cond, Ok, Err, ◌==◌}
+use Rattle.std.specs.Prelude.{true, false, cond, Ok, Err, ◌==◌}
 use Rattle.refusals.specs.Reading.{onward, need}
 use Rattle.refusals.specs.declared.Refusal.TheVariants.{Unknown, Missing}
 use Rattle.conditions.specs.Wanted.{no_wanted, with_key, with_listed, some_wanted}

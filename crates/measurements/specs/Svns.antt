@@ -1,8 +1,7 @@
 use Rattle.std.specs.Prelude.{ℕ, Bool, cond, ◌&&◌, ◌||◌, Ok, Err, ◌==◌, nat_le}
-use Rattle.refusals.specs.Reading.{Outcome, onward, need, or_refuse}
+use Rattle.refusals.specs.Reading.{onward, need, or_refuse}
 use Rattle.refusals.specs.declared.Refusal.TheVariants.{Malformed, OutOfLimits}
-use Rattle.parts.specs.Parts.{Piece, after, before}
-use Rattle.parts.specs.declared.kinds.Read.{Read}
+use Rattle.parts.specs.Parts.{after, before}
 use Rattle.cbor.specs.Items.{Shape, unsigned, bytes, text, array, map, tag, truth, item_of, is_unsigned}
 use Rattle.cbor.specs.Scalars.{Rule, stores, number_to, tag_at}
 use Rattle.measurements.specs.declared.kinds.Svn.{Svn}

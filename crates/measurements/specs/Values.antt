@@ -1,4 +1,4 @@
-use Rattle.std.specs.Prelude.{ℕ, Bool, cond, Some, None, Ok, Err, ◌==◌}
+use Rattle.std.specs.Prelude.{Bool, cond, Some, None, Ok, Err, ◌==◌}
 use Rattle.refusals.specs.Reading.{onward, or_refuse}
 use Rattle.refusals.specs.declared.Refusal.TheVariants.{Unknown, Missing}
 use Rattle.claims.specs.Values.{with_version, with_svn, with_digests, with_flags, with_raw}

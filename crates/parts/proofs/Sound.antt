@@ -1,9 +1,9 @@
-use Rattle.std.proofs.Common.{◌≡◌, ℕ, zero, suc, Bool, true, false, cond, eqb, length, IfOk, IfErr, Some, None, Ok, Err, Option, refl, arith, MatchResult}
+use Rattle.std.proofs.Common.{◌≡◌, ℕ, zero, suc, Bool, true, false, cond, eqb, length, IfOk, IfErr, Some, None, Ok, Err, Option, refl, MatchResult}
 use Rattle.refusals.specs.Figures.{OfReader}
 use Rattle.refusals.specs.Reading.{Outcome, onward, keeps, need, or_refuse}
 use Rattle.refusals.specs.declared.Refusal.{Refusal}
 use Rattle.parts.specs.Parts.{Piece, after}
-use Rattle.parts.specs.Holders.{Element, elements, elements_in}
+use Rattle.parts.specs.Holders.{Element, elements}
 use Rattle.parts.specs.declared.kinds.Read.{Read}
 
 -- what was found has a property, or a reader refused

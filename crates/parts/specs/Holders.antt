@@ -1,4 +1,4 @@
-use Rattle.std.specs.Prelude.{ℕ, zero, suc, cond, length, Ok, Err, ◌==◌}
+use Rattle.std.specs.Prelude.{ℕ, zero, suc, cond, length, Ok, ◌==◌}
 use Rattle.refusals.specs.Reading.{Outcome, onward}
 use Rattle.parts.specs.Parts.{Piece, after}
 use Rattle.parts.specs.declared.kinds.Read.{Read}

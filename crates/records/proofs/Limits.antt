@@ -1,28 +1,25 @@
-use Rattle.std.proofs.Common.{◌≡◌, ℕ, ◌+◌, ◌<◌, ◌≤◌, Bool, true, false, not, ◌||◌, ltb, List, [], ◌∷◌, map, length, get_or, take, set, replicate, is_some, Some, None, Ok, Err, Option, sym, refl, ap, ◌∙◌, subst, inl, inr, arith, length-set, MatchResult}
+use Rattle.std.proofs.Common.{◌≡◌, ℕ, ◌<◌, ◌≤◌, Bool, true, false, not, ◌||◌, ltb, List, [], ◌∷◌, map, length, set, is_some, Some, None, Ok, Option, sym, refl, ap, ◌∙◌, subst, inl, inr, arith, length-set}
 use Rattle.std.specs.List.{AllByRecursion}
 use Rattle.std.proofs.ByRecursion.{All-more, All-map, All-weaker}
 use Rattle.std.proofs.lemmas.List.{take-set, get_or-set_same, length-take-le}
 use Rattle.std.proofs.lemmas.Bool.{both_ways, cond-true, cond-false, ltb-true, cases_Bool}
-use Rattle.refusals.specs.Reading.{Outcome, onward, need}
 use Rattle.refusals.specs.declared.Refusal.TheVariants.{Malformed, OutOfLimits}
 use Rattle.refusals.proofs.Outcomes.{some_same, found_some}
 use Rattle.claims.specs.Claims.{no_claim}
 use Rattle.claims.proofs.Fits.{values_within}
 use Rattle.claims.specs.Limits.{some_value, WithinEnvironment, Within}
-use Rattle.claims.specs.declared.kinds.Claim.{Claim}
 use Rattle.claims.specs.declared.kinds.Environment.{Environment}
 use Rattle.conditions.specs.Limits.{WithinCondition, WithinWanted}
-use Rattle.conditions.specs.Wanted.{no_condition, some_wanted}
+use Rattle.conditions.specs.Wanted.{no_condition}
 use Rattle.conditions.specs.declared.kinds.Condition.{Condition}
 use Rattle.conditions.specs.declared.kinds.Wanted.{Wanted}
-use Rattle.parts.specs.Parts.{Piece, whole_of}
-use Rattle.parts.specs.declared.kinds.Read.{Read}
+use Rattle.parts.specs.Parts.{whole_of}
 use Rattle.parts.proofs.Sound.{Sound, sound_onward, sound_need}
 use Rattle.cbor.specs.Items.{is_map}
-use Rattle.cbor.proofs.Limits.{Of, Yields, Any, sound_item, sound_by, sound_stores, sound_then, sound_array_of, sound_array_brings}
+use Rattle.cbor.proofs.Limits.{Of, Yields, sound_item, sound_by, sound_stores, sound_then, sound_array_of, sound_array_brings}
 use Rattle.measurements.specs.Measurements.{in_condition, in_addition}
 use Rattle.measurements.specs.declared.kinds.Allowed.{Allowed}
-use Rattle.measurements.proofs.Limits.{Measures, environment_limits, measurement_limits}
+use Rattle.measurements.proofs.Limits.{environment_limits, measurement_limits}
 use Rattle.records.specs.Additions.{claim_with, claim_of, joined_all, additions_of}
 use Rattle.records.specs.Few.{few_of, room, joined, members}
 use Rattle.records.specs.Limits.{Each, WithinConditions}

@@ -1,8 +1,7 @@
-use Rattle.std.proofs.Common.{◌≡◌, ℕ, ◌+◌, ◌≤◌, Bool, true, not, ltb, List, [], ◌++◌, length, Ok, Err, sym, refl, ap, ◌∙◌, subst, arith}
+use Rattle.std.proofs.Common.{◌≡◌, ℕ, ◌≤◌, not, ltb, List, [], ◌++◌, length, Ok, sym, ap, ◌∙◌, subst, arith}
 use Rattle.std.proofs.lemmas.List.{append-nil, length-append, nil_from_length}
 use Rattle.std.proofs.lemmas.Bool.{not-true, not_from_false, ltb-false, le-ltb}
 use Rattle.refusals.specs.Reading.{Outcome, onward, need}
-use Rattle.refusals.specs.declared.Refusal.{Refusal}
 use Rattle.refusals.specs.declared.Refusal.TheVariants.{Malformed, OutOfLimits}
 use Rattle.refusals.proofs.Outcomes.{onward_back, need_back, need_true, ok_same}
 use Rattle.claims.specs.declared.kinds.Environment.{Environment}
@@ -11,22 +10,21 @@ use Rattle.conditions.specs.declared.kinds.Condition.{Condition}
 use Rattle.conditions.specs.declared.kinds.Wanted.{Wanted}
 use Rattle.parts.specs.Parts.{Piece, whole_of}
 use Rattle.parts.specs.declared.kinds.Read.{Read}
-use Rattle.cbor.specs.Encodes.{Headed, MapOf, mapped, Stored, stored}
+use Rattle.cbor.specs.Encodes.{MapOf, mapped, stored}
 use Rattle.cbor.specs.Reads.{Begins, Reads}
 use Rattle.cbor.specs.Scalars.{Rule, stores, map_at}
-use Rattle.cbor.proofs.Fields.{need_field, stores_back}
+use Rattle.cbor.proofs.Fields.{stores_back}
 use Rattle.cbor.proofs.Joins.{reads_stores, reads_then, first_written}
 use Rattle.cbor.proofs.Rows.{reads_array}
 use Rattle.cbor.proofs.Rules.{reads_array_of, reads_map_head}
 use Rattle.measurements.specs.Layout.{MeasurementOf, MeasurementField}
-use Rattle.measurements.specs.Measurements.{in_condition, measurement_map}
 use Rattle.measurements.specs.declared.kinds.Allowed.{Allowed}
 use Rattle.measurements.specs.declared.kinds.InMeasurement.{InMeasurement}
 use Rattle.measurements.proofs.Written.{from, environment_reads}
 use Rattle.measurements.proofs.Measured.{measurement_reads}
 use Rattle.records.specs.Few.{few_of, room, joined}
 use Rattle.records.specs.Layout.{RecordHead, ConditionOf, OneMap, one, MapsUnder, OneRecord, RecordsOf}
-use Rattle.records.specs.Records.{record_head, in_record, on_environment, condition_at, map_at_most, maps_under, record_at, records_of, judged}
+use Rattle.records.specs.Records.{record_head, in_record, on_environment, condition_at, map_at_most, maps_under, record_at, records_of}
 use Rattle.records.specs.declared.kinds.Few.{Few}
 use Rattle.records.specs.declared.kinds.InRecord.{InRecord}
 use Rattle.records.specs.declared.kinds.InRecords.{InRecords}

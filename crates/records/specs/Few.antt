@@ -1,4 +1,4 @@
-use Rattle.std.specs.Prelude.{ℕ, ◌+◌, Bool, cond, List, take, replicate, nat_lt, slice_set}
+use Rattle.std.specs.Prelude.{◌+◌, Bool, cond, List, take, replicate, nat_lt, slice_set}
 use Rattle.records.specs.declared.kinds.Few.{Few}
 
 -- none yet

@@ -1,4 +1,4 @@
-use Rattle.std.specs.Prelude.{◌≡◌, ℕ, List, [], ◌∷◌, length, Ok, Err}
+use Rattle.std.specs.Prelude.{◌≡◌, ℕ, List, [], ◌∷◌, Ok, Err}
 use Rattle.std.specs.List.{AllByRecursion}
 use Rattle.refusals.specs.Reading.{onward}
 use Rattle.refusals.specs.declared.Refusal.TheVariants.{Malformed}
@@ -9,7 +9,6 @@ use Rattle.claims.specs.Values.{no_values, with_raw}
 use Rattle.spdm.specs.Claims.{claimed}
 use Rattle.spdm.specs.Rows.{reading}
 use Rattle.spdm.specs.Setups.{setup_of}
-use Rattle.spdm.specs.declared.kinds.Setup.{Setup}
 
 -- a message, the set-up that it is read under, and what comes of it
 pub record Example : Type 0 where

@@ -1,12 +1,12 @@
-use Rattle.std.specs.Prelude.{◌≡◌, ℕ, ◌<◌, ◌≤◌, Bool, true, false, cond, ◌&&◌, ◌⊎◌, List, length, Some, None, Option, ◌==◌, nat_le, refl}
+use Rattle.std.specs.Prelude.{◌≡◌, ℕ, ◌≤◌, ◌&&◌, List, length, Some, None, ◌==◌, nat_le, refl}
 use Rattle.std.proofs.Common.{sym, ap, subst, ◌∙◌, inl, inr, arith}
 use Rattle.std.specs.Option.{option_map}
-use Rattle.std.proofs.lemmas.Bool.{and_from, and_parts, and_left, cond-true, cond-false, eq-eqb, eqb-true, le-leb, leb-true, lt-leb}
+use Rattle.std.proofs.lemmas.Bool.{and_from, and_parts, cond-true, cond-false, eq-eqb, eqb-true, le-leb, leb-true, lt-leb}
 use Rattle.refusals.proofs.Outcomes.{cond_back, mapped_back}
 use Rattle.claims.proofs.Kept.{some_if, kept_from_lem, kept_within, holds_kept}
 use Rattle.claims.specs.Bytes.{bounded, kept_from}
 use Rattle.claims.specs.Digests.{digest_of}
-use Rattle.claims.specs.Limits.{Holds, Within, WithinDigests, WithinValues}
+use Rattle.claims.specs.Limits.{Holds, Within, WithinValues}
 use Rattle.claims.specs.declared.kinds.Algorithm.{Algorithm}
 use Rattle.claims.specs.declared.kinds.Algorithm.TheVariants.{Sha256, Sha384, Sha512}
 use Rattle.claims.specs.declared.kinds.Bytes.{Bytes}

@@ -1,8 +1,8 @@
-use Rattle.std.specs.Prelude.{◌≡◌, ℕ, ◌+◌, ◌-◌, ◌*◌, ◌<◌, ◌≤◌, true, ◌&&◌, List, [], ◌∷◌, length, take, drop, Some, None, Option, slice_index, refl}
-use Rattle.std.proofs.Common.{sym, ap, ◌∙◌, arith}
-use Rattle.std.proofs.lemmas.List.{take_rest, length-take-le, length-drop}
+use Rattle.std.specs.Prelude.{◌≡◌, ℕ, ◌+◌, ◌-◌, ◌*◌, ◌≤◌, List, [], ◌∷◌, length, take, drop, Some, slice_index}
+use Rattle.std.proofs.Common.{ap, ◌∙◌, arith}
+use Rattle.std.proofs.lemmas.List.{take_rest, length-take-le}
 use Rattle.std.proofs.lemmas.Bool.{and_from, le-leb, eq-eqb, cond-true}
-use Rattle.spdm.specs.Blocks.{Block, little, size_at, block_of}
+use Rattle.spdm.specs.Blocks.{little, size_at, block_of}
 
 -- a block whose sizes agree and whose value is whole is the one that stands there
 pub block_found : (m : List ℕ) (size n : ℕ) → 7 ≤ length m → size ≡ slice_index m 2 + slice_index m 3 * 256 → n ≡ slice_index m 5 + slice_index m 6 * 256

@@ -1,4 +1,4 @@
-use Rattle.std.specs.Prelude.{◌≡◌, ℕ, zero, suc, ◌+◌, ◌-◌, ◌<◌, ◌≤◌, Bool, true, false, cond, List, [], ◌∷◌, ◌++◌, length, drop, Some, None, Ok, Err, Option, Result, refl}
+use Rattle.std.specs.Prelude.{◌≡◌, ℕ, zero, suc, ◌+◌, ◌<◌, ◌≤◌, Bool, true, false, List, [], ◌∷◌, ◌++◌, length, drop, Some, None, Ok, Err, Option, refl}
 use Rattle.std.proofs.Common.{sym, ap, subst, ◌∙◌, append_assoc, arith, add-zero}
 use Rattle.std.specs.List.{AllByRecursion}
 use Rattle.std.proofs.lemmas.List.{append-nil, length-append}
@@ -14,7 +14,7 @@ use Rattle.spdm.specs.declared.kinds.Entry.{Entry}
 use Rattle.spdm.specs.Blocks.{Block, block_of}
 use Rattle.spdm.specs.Claims.{claim_of}
 use Rattle.spdm.specs.Rows.{entry_of, row_of, reading}
-use Rattle.spdm.specs.Layout.{Written, Makes, Row, none, more}
+use Rattle.spdm.specs.Layout.{Makes, Row, none, more}
 use Rattle.spdm.specs.Laws.{Begins, Faulty, malformed, falling, outside, Stops, RowOf, ReadAsRows}
 use Rattle.spdm.specs.Laid.{written_long, begins_found, begins_drop, begins_some, found_begins}
 use Rattle.spdm.specs.Made.{makes_back, makes_forth, makes_within}

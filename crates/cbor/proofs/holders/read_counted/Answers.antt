@@ -1,6 +1,6 @@
-use Rattle.std.proofs.Common.{◌≡◌, ℕ, ◌+◌, ◌<◌, ◌≤◌, length, drop, Err, sym, ap, ◌∙◌, arith, rules}
+use Rattle.std.proofs.Common.{◌≡◌, Err, sym, ◌∙◌, arith, rules}
 use Rattle.std.proofs.lemmas.List.{length-drop}
-use Rattle.parts.specs.Parts.{Piece, piece}
+use Rattle.parts.specs.Parts.{piece}
 use Rattle.cbor.specs.Holders.{counted_from}
 use Rattle.cbor.proofs.Counts.{counted_more, counted_none}
 use Rattle.cbor.proofs.holders.read_counted.Goals as goal

@@ -1,6 +1,6 @@
-use Rattle.std.proofs.Common.{◌≡◌, ℕ, ◌+◌, ◌<◌, ◌≤◌, length, drop, sym, ap, arith, rules}
+use Rattle.std.proofs.Common.{◌<◌, ◌≤◌, length, drop, sym, ap, arith, rules}
 use Rattle.std.proofs.lemmas.List.{length-drop}
-use Rattle.parts.specs.Parts.{Piece, piece, after}
+use Rattle.parts.specs.Parts.{Piece, piece}
 use Rattle.parts.proofs.Steps.{walk_begins, walk_goes, walk_stops, walk_ends}
 use Rattle.parts.proofs.holders.read_elements.Goals as goal
 

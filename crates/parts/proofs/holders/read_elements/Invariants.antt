@@ -1,4 +1,4 @@
-use Rattle.std.proofs.Common.{◌≡◌, ◌-◌, length}
+use Rattle.std.proofs.Common.{◌-◌}
 use Rattle.parts.specs.Parts.{piece}
 use Rattle.parts.proofs.Steps.{Walked}
 use Rattle.parts.proofs.holders.read_elements.Given as goal

@@ -1,4 +1,4 @@
-use Rattle.std.proofs.Common.{◌≡◌, ℕ, ◌+◌, ◌*◌, ◌^◌, ◌<◌, ◌≤◌, sym, ap, ◌∙◌, mul-add, arith, pow_mono, pow-add}
+use Rattle.std.proofs.Common.{◌≡◌, ℕ, ◌+◌, ◌*◌, ◌^◌, ◌≤◌, sym, ap, ◌∙◌, mul-add, arith, pow_mono, pow-add}
 use Rattle.std.proofs.lemmas.List.{at_drop_all}
 use Rattle.parts.specs.Numbers.{big_after}
 use Rattle.parts.proofs.Bigs.{big_more}

@@ -1,4 +1,4 @@
-use Rattle.std.proofs.Common.{length, sym, arith}
+use Rattle.std.proofs.Common.{sym, arith}
 use Rattle.std.proofs.lemmas.List.{take_rest, drop_all, length-drop}
 use Rattle.parts.proofs.parts.tail.Goals as goal
 

@@ -1,4 +1,4 @@
-use Rattle.std.proofs.Common.{List, ◌++◌, take, string_bytes, ap, ◌∙◌, arith, rules}
+use Rattle.std.proofs.Common.{List, ◌++◌, string_bytes, ap, ◌∙◌, arith}
 use Rattle.std.proofs.lemmas.List.{take_all}
 use Rattle.claims.specs.declared.kinds.Claim.{Claim}
 use Rattle.session.specs.Readings.{claims_of, claim_lines}

@@ -1,6 +1,5 @@
-use Rattle.std.proofs.Common.{◌≡◌, ℕ, ◌+◌, ◌*◌, ◌≤◌, List, length, get_or, take, drop, Some, Option, sym, ap, ◌∙◌, arith, rules, ltb-false, ltb-true}
+use Rattle.std.proofs.Common.{ℕ, ◌+◌, ◌≤◌, List, length, get_or, Some, sym, ap, ◌∙◌, arith, ltb-false, ltb-true}
 use Rattle.std.proofs.lemmas.List.{length-drop}
-use Rattle.spdm.specs.Blocks.{Block}
 use Rattle.spdm.specs.Sizes.{block_found, value_cut}
 use Rattle.spdm.proofs.blocks.first_block.Goals as goal
 

@@ -1,4 +1,4 @@
-use Rattle.std.proofs.Common.{◌≡◌, ℕ, ◌+◌, min, List, length, drop, ap, ◌∙◌}
+use Rattle.std.proofs.Common.{ℕ, min, List, length, drop, ap, ◌∙◌}
 use Rattle.std.proofs.lemmas.List.{length-drop}
 use Rattle.parts.specs.Parts.{Piece}
 use Rattle.parts.proofs.Cuts.{after_same}

@@ -1,5 +1,4 @@
 use Rattle.std.proofs.Common.{ℕ, List, length, ap, arith}
-use Rattle.parts.specs.Parts.{Piece}
 use Rattle.parts.proofs.Cuts.{front_cut, front_all}
 use Rattle.parts.proofs.kinds.Part.front.Goals as goal
 
