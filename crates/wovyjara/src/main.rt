@@ -1,10 +1,10 @@
 // wovyjara [FILE]: answers each line of the file, or of standard input, at once.
 #![tactic(auto)]
 
-use anyhow::anyhow;
 use script::complaints::Complaint;
 use session::lines::answer;
 use std::io::{BufRead, BufReader};
+use std::process::ExitCode;
 use std::{env, fs, io};
 
 // Answers a line, and tells whether it was taken.
@@ -47,10 +47,10 @@ fn run(rt: &HostRuntime) -> anyhow::Result<bool> {
     Ok(serve(rt, BufReader::new(rt.alloc(), file)?)?)
 }
 
-fn main(rt: HostRuntime) -> anyhow::Result<()> {
+fn main(rt: HostRuntime) -> anyhow::Result<ExitCode> {
     if run(&rt)? {
-        Ok(())
+        Ok(ExitCode::SUCCESS)
     } else {
-        Err(anyhow!("a line was not taken"))
+        Ok(ExitCode::FAILURE)
     }
 }
