@@ -1,13 +1,12 @@
-use Rattle.std.proofs.Common.{◌≡◌, ℕ, Bool, true, false, eqb, List, [], ◌∷◌, IfSome, Some, None, Decides, Option, sym, refl, ap, ◌∙◌, arith}
-use Rattle.std.specs.Cmp.Lexicographic.{pointwise}
-use Rattle.std.proofs.Math.Bool.{beq}
-use Rattle.std.specs.Option.{option_map, option_eq}
-use Rattle.std.proofs.lemmas.Slice.Eq.{bytes_eq-Decides}
+use Rattle.std.proofs.Common.{◌≡◌, ℕ, Bool, true, false, eqb, IfSome, Some, None, Decides, Option, sym, refl, ap, ◌∙◌, arith}
+use Rattle.std.specs.Bool.{beq}
+use Rattle.std.specs.Option.{option_map}
+use Rattle.std.proofs.lemmas.Slice.Eq.{bytes_eq-Decides, slice_eq-Decides}
 use Rattle.std.proofs.lemmas.Bool.{and_parts, false≢true}
 use Rattle.std.proofs.lemmas.Bool.Decides.{Decides-and, Decides-eqb, Decides-like}
 use Rattle.claims.specs.Bytes.{bounded, content, same}
 use Rattle.claims.specs.Limits.{Holds, Within}
-use Rattle.claims.specs.Same.{same_option, same_state, same_flags, same_digests, same_environment, same_values, same_claim, Meaning, meaning}
+use Rattle.claims.specs.Same.{same_option, same_flags, same_digests, same_environment, same_values, same_claim, Meaning, meaning}
 use Rattle.claims.specs.declared.kinds.Bytes.{Bytes}
 use Rattle.claims.specs.declared.kinds.Digests.{Digests}
 use Rattle.claims.specs.declared.kinds.Environment.{Environment}
@@ -25,19 +24,14 @@ option_tells f t None (Some y) = ((λ e. absurd (false≢true e)), λ e. absurd 
 option_tells f t (Some x) None = ((λ e. absurd (false≢true e)), λ e. absurd (let z : ◌≡◌ {A = ℕ} 0 1 = cc in omega arith))
 option_tells f t (Some x) (Some y) = ((λ e. ap (λ v. Some v) ((t x y).0 e)), λ e. let z : x ≡ y = cc in (t x y).1 z)
 
-state_tells : Tells same_state
+state_tells : Tells beq
 state_tells true true = ((λ _. refl), λ _. refl)
 state_tells true false = ((λ e. sym e), λ e. sym e)
 state_tells false true = ((λ e. e), λ e. e)
 state_tells false false = ((λ _. refl), λ _. refl)
 
 pub flags_tells : Tells same_flags
-flags_tells [] [] = ((λ _. refl), λ _. refl)
-flags_tells [] (g ∷ gs) = ((λ e. absurd (false≢true e)), λ e. absurd (let z : ◌≡◌ {A = ℕ} 0 1 = cc in omega arith))
-flags_tells (f ∷ fs) [] = ((λ e. absurd (false≢true e)), λ e. absurd (let z : ◌≡◌ {A = ℕ} 0 1 = cc in omega arith))
-flags_tells (f ∷ fs) (g ∷ gs) =
-    Decides-like _ (λ p. let a = p.0 in let b = p.1 in cc) (λ e. let a : f ≡ g = cc in let b : fs ≡ gs = cc in (a, b))
-    (Decides-and _ _ (option_tells same_state state_tells f g) (flags_tells fs gs))
+flags_tells fs gs = slice_eq-Decides (option_tells beq state_tells) fs gs (same_flags fs gs) refl
 
 pub bytes_tells : (N : ℕ) → Tells (same {N = N})
 bytes_tells N a b =
@@ -189,22 +183,3 @@ meaning_back a b p q e =
 
 pub meaning_decides : (a b : Claim) → Within a → Within b → Decides (same_claim a b) (meaning a ≡ meaning b)
 meaning_decides a b p q = ((λ e. ap meaning ((claim_tells a b).0 e)), λ e. (claim_tells a b).1 (meaning_back a b p q e))
-
--- what `==` tells of flags
-state_told : (a b : Bool) → beq a b ≡ same_state a b
-state_told true true = refl
-state_told true false = refl
-state_told false true = refl
-state_told false false = refl
-
-flag_told : (a b : Option Bool) → option_eq beq a b ≡ same_option same_state a b
-flag_told None None = refl
-flag_told None (Some y) = refl
-flag_told (Some x) None = refl
-flag_told (Some x) (Some y) = state_told x y
-
-pub flags_told : (xs ys : List (Option Bool)) → pointwise (option_eq beq) xs ys ≡ same_flags xs ys
-flags_told [] [] = refl
-flags_told [] (y ∷ ys) = refl
-flags_told (x ∷ xs) [] = refl
-flags_told (x ∷ xs) (y ∷ ys) = rw (flag_told x y, flags_told xs ys) refl

@@ -1,13 +1,18 @@
-use Rattle.std.specs.Prelude.{ℕ, Bool, cond, List, is_some, Some, None, Option, ◌==◌}
-use Rattle.std.specs.Option.{option_map}
+use Rattle.std.specs.Prelude.{ℕ, Bool, cond, List, is_some, Some, None, Option, Result, ◌==◌}
+use Rattle.std.specs.Option.{option_map, ok_or}
 use Rattle.claims.specs.Bytes.{kept_from}
 use Rattle.claims.specs.declared.kinds.Algorithm.{Algorithm}
 use Rattle.claims.specs.declared.kinds.Algorithm.TheVariants.{Sha256, Sha384, Sha512}
 use Rattle.claims.specs.declared.kinds.Digests.{Digests}
+use Rattle.claims.specs.declared.kinds.UnknownAlgorithm.{UnknownAlgorithm}
 
 -- 1 is SHA-256, 7 SHA-384, 8 SHA-512
 abbrev pub algorithm_of : ℕ → Option Algorithm
 algorithm_of n = cond (n == 1) (Some Sha256) (cond (n == 7) (Some Sha384) (cond (n == 8) (Some Sha512) None))
+
+-- the algorithm of a number, or that it names none
+abbrev pub algorithm_from : ℕ → Result Algorithm UnknownAlgorithm
+algorithm_from n = ok_or (algorithm_of n) (record { 0 = n })
 
 abbrev pub no_digests : Digests
 no_digests = record { sha256 = None; sha384 = None; sha512 = None }

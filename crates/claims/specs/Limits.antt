@@ -1,4 +1,5 @@
-use Rattle.std.specs.Prelude.{◌≡◌, ℕ, ◌≤◌, Bool, true, false, ◌&&◌, ◌||◌, List, [], ◌∷◌, length, is_some, IfSome, Option, nat_le}
+use Rattle.std.specs.Prelude.{◌≡◌, ℕ, ◌≤◌, Bool, true, ◌&&◌, ◌||◌, List, length, is_some, IfSome, Option, nat_le}
+use Rattle.std.specs.List.{list_any}
 use Rattle.claims.specs.Bytes.{bounded, content, same}
 use Rattle.claims.specs.declared.kinds.Bytes.{Bytes}
 use Rattle.claims.specs.declared.kinds.Digests.{Digests}
@@ -16,8 +17,7 @@ some_field e = is_some e.class || is_some e.vendor || is_some e.model || is_some
 
 -- some flag is known
 abbrev pub some_flag : List (Option Bool) → Bool
-some_flag [] = false
-some_flag (f ∷ fs) = is_some f || some_flag fs
+some_flag fs = list_any is_some fs
 
 -- some digest is there
 abbrev pub some_digest : Digests → Bool

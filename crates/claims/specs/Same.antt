@@ -1,5 +1,7 @@
-use Rattle.std.specs.Prelude.{ℕ, Bool, true, false, not, ◌&&◌, List, [], ◌∷◌, Some, None, Option, nat_eq}
-use Rattle.std.specs.Option.{option_map}
+use Rattle.std.specs.Prelude.{ℕ, Bool, ◌&&◌, List, Option, nat_eq}
+use Rattle.std.specs.Bool.{beq}
+use Rattle.std.specs.Cmp.Lexicographic.{pointwise}
+use Rattle.std.specs.Option.{option_eq, option_map}
 use Rattle.claims.specs.Bytes.{content, same}
 use Rattle.claims.specs.declared.kinds.Digests.{Digests}
 use Rattle.claims.specs.declared.kinds.Environment.{Environment}
@@ -8,22 +10,11 @@ use Rattle.claims.specs.declared.kinds.Claim.{Claim}
 
 -- missing in both, or there in both and the same
 abbrev pub same_option : {A : Type 0} → (A → A → Bool) → Option A → Option A → Bool
-same_option f None None = true
-same_option f None (Some y) = false
-same_option f (Some x) None = false
-same_option f (Some x) (Some y) = f x y
+same_option = option_eq
 
--- both true or both false
-abbrev pub same_state : Bool → Bool → Bool
-same_state true b = b
-same_state false b = not b
-
--- flags, number by number
+-- flags, number by number: each missing in both, or true in both, or false in both
 abbrev pub same_flags : List (Option Bool) → List (Option Bool) → Bool
-same_flags [] [] = true
-same_flags [] (g ∷ gs) = false
-same_flags (f ∷ fs) [] = false
-same_flags (f ∷ fs) (g ∷ gs) = same_option same_state f g && same_flags fs gs
+same_flags = pointwise (same_option beq)
 
 -- digests, algorithm by algorithm
 abbrev pub same_digests : Digests → Digests → Bool

@@ -9,9 +9,7 @@ fn padded<const N: usize>(part: &[u8]) -> Bytes<N>
     ensures { result ≡ bounded N part.now }
 {
     let mut places = [0; N];
-    for i in 0..part.len() {
-        places[i] = part[i];
-    }
+    places[..part.len()].copy_from_slice(part);
     Bytes {
         len: part.len(),
         places,
@@ -33,9 +31,8 @@ impl<const N: usize> Bytes<N> {
     pub fn as_slice(&self) -> &[u8]
         ensures { result.now ≡ content self.now }
     {
-        let all = &self.places[..];
-        let len = self.len;
-        if len < all.len() { &all[0..len] } else { all }
+        let all = self.places.as_slice();
+        &all[..self.len.min(all.len())]
     }
 
     // Whether both hold the same bytes.
@@ -43,6 +40,6 @@ impl<const N: usize> Bytes<N> {
         ensures value { result ≡ same self.now other.now }
         ensures law { (xs ys : List ℕ) → self.now ≡ bounded N xs → other.now ≡ bounded N ys → Decides result (xs ≡ ys) }
     {
-        self.len == other.len && self.places == other.places
+        self == other
     }
 }

@@ -1,20 +1,30 @@
 ghost use Rattle.std.specs.Prelude.{◌≡◌};
-ghost use Rattle.claims.specs.Digests.{algorithm_of, has_digest, with_digest};
+ghost use Rattle.claims.specs.Digests.{algorithm_from, has_digest, with_digest};
+ghost use Rattle.claims.specs.Limits.{some_digest};
+ghost use Rattle.claims.specs.Same.{same_digests};
 
-use crate::kinds::{Algorithm, Bytes, Digests};
+use crate::kinds::{Algorithm, Bytes, Digests, UnknownAlgorithm};
 
-impl Algorithm {
-    // The algorithm of a number.
-    pub fn from_number(number: u64) -> Option<Algorithm>
-        ensures { result ≡ algorithm_of number }
-    {
+impl TryFrom<u64> for Algorithm {
+    type Error = UnknownAlgorithm;
+
+    ghost try_from_gives = { λ number r. r ≡ algorithm_from number };
+
+    fn try_from(number: u64) -> Result<Algorithm, UnknownAlgorithm> {
         match number {
-            1 => Some(Algorithm::Sha256),
-            7 => Some(Algorithm::Sha384),
-            8 => Some(Algorithm::Sha512),
-            _ => None,
+            1 => Ok(Algorithm::Sha256),
+            7 => Ok(Algorithm::Sha384),
+            8 => Ok(Algorithm::Sha512),
+            _ => Err(UnknownAlgorithm(number)),
         }
     }
+}
+
+// Whether some digest is there.
+pub(crate) fn has_digest(digests: &Digests) -> bool
+    ensures { result ≡ some_digest digests.now }
+{
+    digests.sha256.is_some() || digests.sha384.is_some() || digests.sha512.is_some()
 }
 
 impl Digests {
@@ -47,5 +57,11 @@ impl Digests {
                 ..self
             }),
         }
+    }
+    // Whether both have the same digests.
+    pub fn is_same(&self, other: &Digests) -> bool
+        ensures { result ≡ same_digests self.now other.now }
+    {
+        self == other
     }
 }

@@ -1,5 +1,5 @@
 // A byte string of at most N bytes, kept by value. The places past its length hold 0, so equal bytes are kept alike.
-#[derive(Clone, Copy)]
+#[derive(Clone, Copy, PartialEq, Eq)]
 pub struct Bytes<const N: usize> {
     pub(crate) len: usize,
     pub(crate) places: [u8; N],
@@ -13,8 +13,12 @@ pub enum Algorithm {
     Sha512,
 }
 
+// A number that names no hash algorithm.
+#[derive(Clone, Copy, PartialEq, Eq, Debug)]
+pub struct UnknownAlgorithm(pub u64);
+
 // A set of digests, at most one for each algorithm.
-#[derive(Clone, Copy)]
+#[derive(Clone, Copy, PartialEq, Eq)]
 pub struct Digests {
     pub sha256: Option<Bytes<32>>,
     pub sha384: Option<Bytes<48>>,
@@ -30,7 +34,7 @@ impl Digests {
 }
 
 // Flags 0 to 9, each missing, false or true.
-#[derive(Clone, Copy)]
+#[derive(Clone, Copy, PartialEq, Eq)]
 pub struct Flags {
     pub states: [Option<bool>; 10],
 }
@@ -40,7 +44,7 @@ impl Flags {
 }
 
 // What a claim speaks of. Any field may be missing, but not all.
-#[derive(Clone, Copy)]
+#[derive(Clone, Copy, PartialEq, Eq)]
 pub struct Environment {
     pub class: Option<Bytes<32>>,
     pub vendor: Option<Bytes<32>>,
@@ -62,7 +66,7 @@ impl Environment {
 }
 
 // What is claimed: at least one value.
-#[derive(Clone, Copy)]
+#[derive(Clone, Copy, PartialEq, Eq)]
 pub struct Values {
     pub version: Option<Bytes<32>>,
     pub svn: Option<u64>,
@@ -82,7 +86,7 @@ impl Values {
 }
 
 // A claim: an environment, perhaps the key of one of its elements, and values.
-#[derive(Clone, Copy)]
+#[derive(Clone, Copy, PartialEq, Eq)]
 pub struct Claim {
     pub environment: Environment,
     pub key: Option<u16>,

@@ -1,7 +1,9 @@
 #![tactic(auto)]
 
 pub mod bytes;
+pub mod claim;
 pub mod digests;
+pub mod environment;
+pub mod flags;
 pub mod kinds;
-pub mod presence;
-pub mod same;
+pub mod values;
