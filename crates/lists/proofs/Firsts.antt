@@ -1,9 +1,8 @@
-use Rattle.std.proofs.Common.{◌≡◌, ℕ, zero, suc, ◌+◌, ◌<◌, ◌≤◌, min, Bool, true, false, cond, List, [], ◌∷◌, length, get_or, take, drop, is_some, Some, None, Decides, Option, sym, refl, ap, ◌∙◌, subst, arith}
+use Rattle.std.proofs.Common.{◌≡◌, ℕ, zero, suc, ◌<◌, ◌≤◌, Bool, true, false, List, [], ◌∷◌, length, get_or, is_some, Some, None, Decides, Option, sym, refl, ap, ◌∙◌, subst, ⊎_elim, arith}
 use Rattle.std.specs.Option.{option_map}
 use Rattle.std.specs.List.{ContainsAt as Has}
-use Rattle.std.proofs.lemmas.List.{at_drop_more, at_drop_all, get_or-take, length-take}
 use Rattle.std.proofs.ByRecursion.{has_get_or}
-use Rattle.std.proofs.lemmas.Bool.{cond_both, both_ways, false≢true}
+use Rattle.std.proofs.lemmas.Bool.{cases_lt, cond_both, both_ways, false≢true}
 use Rattle.lists.specs.Finding.{first_of, First}
 
 -- the first that passes, with one more before it that does not
@@ -27,42 +26,25 @@ first_law f (x ∷ xs) =
     (λ e. (omega arith, (λ d. e), λ k d l b. absurd (omega arith)))
     (λ e. first_more f x xs (first_of f xs) e (first_law f xs))
 
--- places counted from i, one place on
-on : (i : ℕ) (o : Option ℕ) → option_map (λ k. i + k) (option_map suc o) ≡ option_map (λ k. (i + 1) + k) o
-on i None = refl
-on i (Some k) = let e : i + suc k ≡ (i + 1) + k = omega arith in ap (λ (n : ℕ). Some n) e
+-- only one answer is the first
+same_first : {E : Type 0} (f : E → Bool) (xs : List E) (r s : Option ℕ) → First f xs r → First f xs s → r ≡ s
+same_first f xs None None h k = refl
+same_first f [] (Some i) s h k = absurd (omega (arith, h.0))
+same_first f [] None (Some j) h k = absurd (omega (arith, k.0))
+same_first f (x ∷ xs) (Some i) None h k = absurd (both_ways (f (get_or (x ∷ xs) i x)) (k i x (omega arith) h.0) (h.1 x))
+same_first f (x ∷ xs) None (Some j) h k = absurd (both_ways (f (get_or (x ∷ xs) j x)) (h j x (omega arith) k.0) (k.1 x))
+same_first f (x ∷ xs) (Some i) (Some j) h k =
+    ⊎_elim
+    (λ (l : i < j). absurd (both_ways (f (get_or (x ∷ xs) i x)) (k.2 i x (omega arith) l) (h.1 x)))
+    (λ (l : j ≤ i).
+    ⊎_elim
+    (λ (m : j < i). absurd (both_ways (f (get_or (x ∷ xs) j x)) (h.2 j x (omega arith) m) (k.1 x)))
+    (λ (m : i ≤ j). let e : i ≡ j = omega arith in ap (λ (n : ℕ). Some n) e)
+    (cases_lt j i))
+    (cases_lt i j)
 
-pub from_start : (o : Option ℕ) → o ≡ option_map (λ k. 0 + k) o
-from_start None = refl
-from_start (Some k) = let e : k ≡ 0 + k = omega arith in ap (λ (n : ℕ). Some n) e
-
--- what is left to look at from i on, by the element x there
-left : {E : Type 0} (f : E → Bool) (xs : List E) (n i : ℕ) (x : E) (b : Bool) → i < n → i < length xs → x ≡ get_or xs i x → b ≡ f x
-    → first_of f (drop i (take n xs)) ≡ cond b (Some 0) (option_map suc (first_of f (drop (i + 1) (take n xs))))
-left f xs n i x b few within at e =
-    let long = length-take n xs in
-    at_drop_more (first_of f) (take n xs) i x (omega arith)
-    ∙ ap (λ u. cond u (Some 0) (option_map suc (first_of f (drop (i + 1) (take n xs))))) (ap f (get_or-take n xs i x few ∙ sym at) ∙ sym e)
-
-pub find_more : {E : Type 0} (f : E → Bool) (xs : List E) (n i : ℕ) (x : E) → i < min n (length xs) → x ≡ get_or xs i x → false ≡ f x
-    → first_of f (take n xs) ≡ option_map (λ k. i + k) (first_of f (drop i (take n xs)))
-    → first_of f (take n xs) ≡ option_map (λ k. (i + 1) + k) (first_of f (drop (i + 1) (take n xs)))
-find_more f xs n i x below at e inv =
-    inv ∙ ap (option_map (λ k. i + k)) (left f xs n i x false (omega arith) (omega arith) at e) ∙ on i (first_of f (drop (i + 1) (take n xs)))
-
-pub find_here : {E : Type 0} (f : E → Bool) (xs : List E) (n i : ℕ) (x : E) → i < min n (length xs) → x ≡ get_or xs i x → true ≡ f x
-    → first_of f (take n xs) ≡ option_map (λ k. i + k) (first_of f (drop i (take n xs)))
-    → Some i ≡ first_of f (take n xs)
-find_here f xs n i x below at e inv =
-    let z : i ≡ i + 0 = omega arith in
-    ap (λ (k : ℕ). Some k) z ∙ sym (inv ∙ ap (option_map (λ k. i + k)) (left f xs n i x true (omega arith) (omega arith) at e))
-
-pub find_none : {E : Type 0} (f : E → Bool) (xs : List E) (n i : ℕ) → min n (length xs) ≤ i
-    → first_of f (take n xs) ≡ option_map (λ k. i + k) (first_of f (drop i (take n xs)))
-    → None ≡ first_of f (take n xs)
-find_none f xs n i end inv =
-    let long = length-take n xs in
-    sym (inv ∙ ap (option_map (λ k. i + k)) (at_drop_all (first_of f) (take n xs) i (omega arith)))
+pub first_only : {E : Type 0} (f : E → Bool) (xs : List E) (r : Option ℕ) → First f xs r → r ≡ first_of f xs
+first_only f xs r h = same_first f xs r (first_of f xs) h (first_law f xs)
 
 -- an answer that is the first is one by the law too
 pub first_from : {E : Type 0} (f : E → Bool) (xs : List E) (r : Option ℕ) → r ≡ first_of f xs → First f xs r

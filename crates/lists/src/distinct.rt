@@ -29,7 +29,7 @@ impl<'a, E: Same + Copy> Distinct<'a, E> {
         ensures { result.now ≡ take self.now.count self.now.places.now }
     {
         let held = self.count.min(self.places.len());
-        &self.places[0..held]
+        &self.places[..held]
     }
 
     // The place of the first element that meets the question.
@@ -39,7 +39,7 @@ impl<'a, E: Same + Copy> Distinct<'a, E> {
         ensures value { result ≡ first_of (λ (x : E). E.meets x question.now) (take self.now.count self.now.places.now) }
         ensures law { First (λ (x : E). E.meets x question.now) (take self.now.count self.now.places.now) result }
     {
-        find(self.places, self.count, question)
+        find(self.elements(), question)
     }
 
     // Stores x once, and says where it stands then; none where the list is full.

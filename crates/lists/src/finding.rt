@@ -1,25 +1,20 @@
-ghost use Rattle.std.specs.Prelude.{◌≡◌, take};
+ghost use Rattle.std.specs.Prelude.{◌≡◌};
 ghost use Rattle.lists.specs.Finding.{first_of, First};
 
 use crate::asking::{Meets, Same};
 
-// The place of the first of the first `count` elements that meets the question. A count beyond the last place is taken for all places.
-pub fn find<Q, E: Meets<Q>>(places: &[E], count: usize, question: &Q) -> Option<usize>
-    ensures value { result ≡ first_of (λ (x : E). E.meets x question.now) (take count places.now) }
-    ensures law { First (λ (x : E). E.meets x question.now) (take count places.now) result }
+// The place of the first element that meets the question.
+pub fn find<Q, E: Meets<Q>>(elements: &[E], question: &Q) -> Option<usize>
+    ensures value { result ≡ first_of (λ (x : E). E.meets x question.now) elements.now }
+    ensures law { First (λ (x : E). E.meets x question.now) elements.now result }
 {
-    for i in 0..count.min(places.len()) {
-        if places[i].is_met(question) {
-            return Some(i);
-        }
-    }
-    None
+    elements.iter().position(|element| element.is_met(question))
 }
 
-// The place of the first of the first `count` elements that is the same as the wanted one.
-pub fn find_same<E: Same>(places: &[E], count: usize, wanted: &E) -> Option<usize>
-    ensures value { result ≡ first_of (λ (x : E). E.same x wanted.now) (take count places.now) }
-    ensures law { First (λ (x : E). E.same x wanted.now) (take count places.now) result }
+// The place of the first element that is the same as the wanted one.
+pub fn find_same<E: Same>(elements: &[E], wanted: &E) -> Option<usize>
+    ensures value { result ≡ first_of (λ (x : E). E.same x wanted.now) elements.now }
+    ensures law { First (λ (x : E). E.same x wanted.now) elements.now result }
 {
-    find(places, count, wanted)
+    find(elements, wanted)
 }

@@ -13,7 +13,7 @@ pub fn store_once<E: Same + Copy>(places: &mut [E], count: usize, x: E) -> Optio
     ensures once { Once E.same x count places.old places.new result }
 {
     let held = count.min(places.len());
-    if let Some(place) = find(places, held, &x) {
+    if let Some(place) = find(&places[..held], &x) {
         return Some(Stored { place, count: held });
     }
     if held == places.len() {

@@ -1,10 +1,10 @@
-use Rattle.std.proofs.Common.{◌≡◌, ℕ, ◌<◌, ◌≤◌, Bool, true, false, eqb, List, ◌++◌, length, take, drop, Decides, sym, refl, ap, ◌∙◌, ⊎_elim, append_assoc, arith}
-use Rattle.std.specs.List.{ContainsAt as Has, AllByRecursion, starts_with}
+use Rattle.std.proofs.Common.{◌≡◌, ℕ, ◌<◌, ◌≤◌, true, false, List, ◌++◌, length, take, drop, Decides, sym, refl, ap, ◌∙◌, ⊎_elim, append_assoc, arith}
+use Rattle.std.specs.List.{ContainsAt as Has, AllByRecursion}
 use Rattle.std.proofs.ByRecursion.{all-has, has_append_left, has_append_right}
-use Rattle.std.proofs.lemmas.Slice.Eq.{slice_eq-Decides, bytes_eq-Decides}
+use Rattle.std.proofs.lemmas.Slice.Eq.{bytes_eq-Decides}
 use Rattle.std.proofs.lemmas.List.{take-append-drop, take_at}
 use Rattle.std.proofs.lemmas.Bool.{cases_Bool}
-use Rattle.std.proofs.lemmas.Bool.Decides.{Decides-and, Decides-eqb, Decides-like, same_from_decides}
+use Rattle.std.proofs.lemmas.Bool.Decides.{Decides-and, Decides-eqb, Decides-like}
 use Rattle.claims.specs.Bytes.{content}
 use Rattle.lists.proofs.Firsts.{first_some}
 use Rattle.policies.specs.Uses.{number_of, same_use}
@@ -35,10 +35,6 @@ begins_decides b c =
     (λ e. (drop (length b) c, sym (take-append-drop (length b) c) ∙ sym (ap (λ l. l ++ drop (length b) c) e)))
     (λ p. sym (ap (take (length b)) p.1 ∙ take_at b p.0 (length b) refl))
     (bytes_eq-Decides b (take (length b) c))
-
--- what `starts_with` tells
-pub begins_told : (b c : List ℕ) (r : Bool) → r ≡ starts_with eqb c b → r ≡ begins b c
-begins_told b c r h = same_from_decides r (begins b c) (slice_eq-Decides Decides-eqb b (take (length b) c) r h) (bytes_eq-Decides b (take (length b) c))
 
 begins_trans : (a b c : List ℕ) → begins a b ≡ true → begins b c ≡ true → begins a c ≡ true
 begins_trans a b c p q =

@@ -1,9 +1,9 @@
 ghost use Rattle.std.specs.Prelude.{◌≡◌, ℕ, ◌≤◌, false, ◌&&◌, ◌||◌, List};
 ghost use Rattle.authorities.specs.Sets.{in_set};
-ghost use Rattle.policies.specs.Uses.{same_use};
+ghost use Rattle.policies.specs.Uses.{answer_to, same_use};
 ghost use Rattle.policies.specs.Registers.{no_register, register_with, register_permits};
 
-use crate::kinds::{Register, Use};
+use crate::kinds::{Question, Register, Use};
 use crate::policy::Policy;
 use authorities::kinds::Authorities;
 
@@ -45,14 +45,15 @@ impl Register {
 impl Policy for Register {
     ghost permits = { register_permits };
 
-    fn permits(&self, authority: u64, usage: Use, class: &[u8]) -> bool
-        ensures value { result ≡ register_permits self.now authority usage class.now }
-        ensures above { 64 ≤ authority → result ≡ false }
+    fn permits(&self, question: &Question<'_>) -> bool
+        ensures value { result ≡ answer_to question.now (register_permits self.now) }
+        ensures above { 64 ≤ question.now.authority → result ≡ false }
     {
-        match usage {
-            Use::Evidence => self.evidence.has(authority),
-            Use::Reference => self.reference.has(authority),
-            Use::Endorsement => self.endorsement.has(authority),
-        }
+        let signers = match question.usage {
+            Use::Evidence => self.evidence,
+            Use::Reference => self.reference,
+            Use::Endorsement => self.endorsement,
+        };
+        signers.has(question.authority)
     }
 }

@@ -20,10 +20,7 @@ pub fn admit(message: &[u8]) -> Result<(), Refusal>
 pub fn rises(last: Option<u64>, number: u64) -> bool
     ensures { result ≡ above last number }
 {
-    match last {
-        None => true,
-        Some(before) => before < number,
-    }
+    last.is_none_or(|before| before < number)
 }
 
 #[cfg(test)]
