@@ -1,4 +1,3 @@
-pub mod Bigs
 pub mod Cuts
 pub mod Steps
 pub mod Sound

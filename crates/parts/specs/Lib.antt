@@ -1,4 +1,5 @@
 pub mod Numbers
 pub mod Parts
 pub mod Holders
+pub mod Reads
 pub mod Picks

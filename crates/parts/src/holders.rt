@@ -1,8 +1,9 @@
-ghost use Rattle.std.specs.Prelude.{◌≡◌, ℕ, ◌<◌, ◌≤◌, length, IfOk, Result as Answer};
+ghost use Rattle.std.specs.Prelude.{◌≡◌, Result as Answer};
 ghost use Rattle.refusals.specs.declared.Refusal.{Refusal as Turned};
 ghost use Rattle.parts.specs.declared.kinds.Read.{Read as Taking};
 ghost use Rattle.parts.specs.Parts.{Piece, piece};
 ghost use Rattle.parts.specs.Holders.{elements_in};
+ghost use Rattle.parts.specs.Reads.{TakenFrom};
 
 use crate::kinds::{Part, Read};
 use refusals::Refusal;
@@ -13,20 +14,19 @@ pub trait Elements: Copy {
 
     fn read_element(self, part: Part<'_>) -> Result<Read<Self>, Refusal>
         ensures value { result ≡ element self (piece part.entry) }
-        ensures within { IfOk result (λ x. (0 < x.size) × (x.size ≤ length (piece part.entry).bytes)) };
+        ensures within { TakenFrom (piece part.entry) result };
 }
 
 // The elements that fill a part.
 pub fn read_elements<E: Elements>(part: Part<'_>, start: E) -> Result<E, Refusal>
     ensures { result ≡ elements_in E.Elements.element start (piece part.entry) }
 {
-    let size = part.bytes().len();
     let mut found = start;
-    let mut used = 0;
-    while used < size {
-        let element = found.read_element(part.after(used))?;
+    let mut rest = part;
+    while !rest.is_empty() {
+        let element = found.read_element(rest)?;
         found = element.value;
-        used += element.size;
+        rest = rest.after(element.size);
     }
     Ok(found)
 }

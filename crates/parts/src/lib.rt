@@ -5,3 +5,4 @@ pub mod kinds;
 pub mod numbers;
 pub mod parts;
 pub mod picks;
+pub mod reads;

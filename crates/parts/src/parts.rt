@@ -8,10 +8,7 @@ pub fn tail(bytes: &[u8], n: usize) -> &[u8]
     ensures value { result.now ≡ drop n bytes.now }
     ensures len { length result.now ≡ length bytes.now - n }
 {
-    if n > bytes.len() {
-        return b"";
-    }
-    &bytes[n..]
+    &bytes[n.min(bytes.len())..]
 }
 
 impl<'a> Part<'a> {
@@ -39,7 +36,7 @@ impl<'a> Part<'a> {
     pub fn is_empty(self) -> bool
         ensures { result ≡ none (piece self.entry) }
     {
-        self.bytes().len() == 0
+        self.bytes().is_empty()
     }
 
     // What follows the first n bytes.
@@ -49,8 +46,8 @@ impl<'a> Part<'a> {
     {
         let step = n.min(self.bytes().len());
         Part {
-            message: self.message,
             at: self.at + step,
+            ..self
         }
     }
 
@@ -61,11 +58,10 @@ impl<'a> Part<'a> {
         if n >= self.bytes().len() {
             return self;
         }
-        let message = self.message;
         let end = self.at + n;
         Part {
-            message: &message[0..end],
-            at: self.at,
+            message: &self.message[..end],
+            ..self
         }
     }
 }

@@ -8,16 +8,13 @@ impl<T: Copy> Pick<T> {
     pub fn note(self, wanted: usize, member: T) -> Pick<T>
         ensures { result ≡ noted wanted self member }
     {
-        let seen = self.seen.saturating_add(1);
-        if self.seen == wanted {
-            return Pick {
-                seen,
-                kept: Some(member),
-            };
-        }
         Pick {
-            seen,
-            kept: self.kept,
+            seen: self.seen.saturating_add(1),
+            kept: if self.seen == wanted {
+                Some(member)
+            } else {
+                self.kept
+            },
         }
     }
 }
