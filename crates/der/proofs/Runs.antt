@@ -1,29 +1,26 @@
-use Rattle.std.proofs.Common.{◌≡◌, ℕ, ◌+◌, ◌<◌, ◌≤◌, List, length, get_or, drop, Some, None, Option, refl, ap, ◌∙◌, arith}
+use Rattle.std.proofs.Common.{◌≡◌, ℕ, ◌+◌, Bool, true, false, cond, ltb, List, [], ◌∷◌, Some, None, Option, refl, sym, ap, ◌∙◌, arith}
 use Rattle.std.specs.Option.{option_map}
-use Rattle.std.proofs.lemmas.List.{at_drop_more, at_drop_all}
-use Rattle.std.proofs.lemmas.Bool.{cond-true, cond-false, lt-ltb, le-ltb}
+use Rattle.std.specs.List.{position, position_from}
+use Rattle.std.proofs.lemmas.Iterator.Adapters.{position_from-zero}
 use Rattle.der.specs.Heads.{run}
 
-pub run_none : (xs : List ℕ) → run xs ≡ option_map (λ n. 0 + n) (run xs)
-run_none xs = same (run xs)
-  where
-    same : (o : Option ℕ) → o ≡ option_map (λ n. 0 + n) o
-    same None = refl
-    same (Some n) = ap (λ (k : ℕ). Some k) (omega arith)
+same : (o : Option ℕ) → o ≡ option_map (λ n. 0 + n) o
+same None = refl
+same (Some n) = ap (λ (k : ℕ). Some k) (omega arith)
 
 further : (i : ℕ) (o : Option ℕ) → option_map (λ n. i + n) (option_map (λ n. 1 + n) o) ≡ option_map (λ n. i + 1 + n) o
 further i None = refl
 further i (Some n) = ap (λ (k : ℕ). Some k) (omega arith)
 
--- one more byte whose top bit is set
-pub run_more : (xs : List ℕ) (i : ℕ) → i < length xs → 128 ≤ get_or xs i 0
-    → option_map (λ n. i + n) (run (drop i xs)) ≡ option_map (λ n. i + 1 + n) (run (drop (i + 1) xs))
-run_more xs i h b =
-    ap (option_map (λ n. i + n)) (at_drop_more run xs i 0 h ∙ cond-false _ _ _ (le-ltb (get_or xs i 0) 128 b))
-    ∙ further i (run (drop (i + 1) xs))
+split : (b : Bool) (i : ℕ) (o q : Option ℕ) → option_map (λ n. i + 1 + n) o ≡ option_map (λ n. n + 1) q
+    → option_map (λ n. i + n) (cond b (Some 1) (option_map (λ n. 1 + n) o)) ≡ option_map (λ n. n + 1) (cond b (Some i) q)
+split true i o q e = refl
+split false i o q e = further i o ∙ e
 
-pub run_ends : (xs : List ℕ) (i : ℕ) → i < length xs → get_or xs i 0 < 128 → option_map (λ n. i + n) (run (drop i xs)) ≡ Some (i + 1)
-run_ends xs i h b = ap (option_map (λ n. i + n)) (at_drop_more run xs i 0 h ∙ cond-true _ _ _ (lt-ltb (get_or xs i 0) 128 b))
+from : (i : ℕ) (xs : List ℕ) → option_map (λ n. i + n) (run xs) ≡ option_map (λ n. n + 1) (position_from (λ x. ltb x 128) i xs)
+from i [] = refl
+from i (x ∷ xs) = split (ltb x 128) i (run xs) (position_from (λ y. ltb y 128) (i + 1) xs) (from (i + 1) xs)
 
-pub run_all : (xs : List ℕ) (i : ℕ) → length xs ≤ i → option_map (λ n. i + n) (run (drop i xs)) ≡ None
-run_all xs i h = ap (option_map (λ n. i + n)) (at_drop_all run xs i h)
+-- a run ends behind the first byte whose top bit is clear
+pub run_position : (xs : List ℕ) → run xs ≡ option_map (λ n. n + 1) (position (λ x. ltb x 128) xs)
+run_position xs = same (run xs) ∙ from 0 xs ∙ ap (option_map (λ n. n + 1)) (sym (position_from-zero (λ x. ltb x 128) xs))

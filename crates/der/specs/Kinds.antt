@@ -2,6 +2,8 @@ use Rattle.std.specs.Prelude.{ℕ, Bool, ◌&&◌, ◌||◌, List, length, Some,
 use Rattle.refusals.specs.Reading.{Outcome, need, or_refuse}
 use Rattle.refusals.specs.declared.Refusal.TheVariants.{Malformed, OutOfLimits}
 use Rattle.der.specs.declared.kinds.Held.{Held}
+use Rattle.der.specs.declared.kinds.Kind.{Kind}
+use Rattle.der.specs.declared.kinds.Kind.TheVariants.{Boolean, Octets, Identifier, Sequence}
 use Rattle.der.specs.Items.{Shape, boolean, octets, identifier, sequence, field, item_of}
 use Rattle.parts.specs.Parts.{Piece, piece}
 
@@ -34,6 +36,13 @@ is_sequence (octets p) = None
 is_sequence (identifier p) = None
 is_sequence (sequence p) = Some p
 is_sequence (field t p) = None
+
+-- the content of an item of a kind
+abbrev pub content_of : Kind → Shape → Option Piece
+content_of Boolean = is_boolean
+content_of Octets = is_octets
+content_of Identifier = is_identifier
+content_of Sequence = is_sequence
 
 -- the tag and the content of an item of none of these kinds
 abbrev pub is_field : Shape → Option (ℕ × Piece)

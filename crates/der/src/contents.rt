@@ -13,10 +13,7 @@ pub fn read_bytes<const N: usize>(
 ) -> Result<Bytes<N>, Refusal>
     ensures { result ≡ bytes_in N least at content.now }
 {
-    match Bytes::new(content, least) {
-        Some(bytes) => Ok(bytes),
-        None => Err(Refusal::OutOfLimits(at)),
-    }
+    Bytes::new(content, least).ok_or(Refusal::OutOfLimits(at))
 }
 
 // Whether an INTEGER has a byte, and no first byte that could be left out.
@@ -37,15 +34,13 @@ pub fn read_integer(content: &[u8], at: usize, most: u64) -> Result<u64, Refusal
     ensures value { result ≡ integer_in most at content.now }
     ensures within { IfOk result (λ n. n ≤ most) }
 {
-    if !is_shortest(content) || content.is_empty() {
+    if !is_shortest(content) {
         return Err(Refusal::Malformed(at));
     }
-    if content[0] >= 128 {
+    if content.first().is_some_and(|first| *first >= 128) {
         return Err(Refusal::OutOfLimits(at));
     }
-    let Some(number) = read_big(content) else {
-        return Err(Refusal::OutOfLimits(at));
-    };
+    let number = read_big(content).ok_or(Refusal::OutOfLimits(at))?;
     if number > most {
         return Err(Refusal::OutOfLimits(at));
     }

@@ -3,10 +3,10 @@ ghost use Rattle.std.specs.Option.{option_map};
 ghost use Rattle.refusals.specs.Reading.{keeps};
 ghost use Rattle.parts.specs.Parts.{piece};
 ghost use Rattle.der.specs.Items.{shape, shape_of, taken, item_of};
-ghost use Rattle.der.specs.Kinds.{is_octets, is_identifier, is_sequence, holder, item_at, truth, after_boolean};
+ghost use Rattle.der.specs.Kinds.{content_of, is_octets, is_identifier, is_sequence, holder, item_at, truth, after_boolean};
 
 use crate::heads::head_of;
-use crate::kinds::{Held, Item, Taken};
+use crate::kinds::{Held, Item, Kind, Taken};
 use parts::kinds::Part;
 use refusals::Refusal;
 
@@ -28,13 +28,40 @@ pub fn take_item(part: Part<'_>) -> Option<Taken<'_>>
     ensures value { option_map taken result ≡ item_of (piece part.entry) }
     ensures shorter { IfSome result (λ t. length (piece t.rest).bytes < length (piece part.entry).bytes) }
 {
-    let Some(head) = head_of(part.bytes()) else {
-        return None;
-    };
+    let head = head_of(part.bytes())?;
     let content = part.after(head.header).front(head.size);
     Some(Taken {
         item: item_of(head.tag, content),
         rest: part.after(head.header + head.size),
+    })
+}
+
+impl<'a> Item<'a> {
+    // The content, if the item is of a kind.
+    fn content_of(self, kind: Kind) -> Option<Part<'a>>
+        ensures { option_map piece result ≡ content_of kind (shape self.entry) }
+    {
+        match (kind, self) {
+            (Kind::Boolean, Item::Boolean(content))
+            | (Kind::Octets, Item::Octets(content))
+            | (Kind::Identifier, Item::Identifier(content))
+            | (Kind::Sequence, Item::Sequence(content)) => Some(content),
+            _ => None,
+        }
+    }
+}
+
+// An item of a kind, with which a part must begin.
+fn take_kind(part: Part<'_>, kind: Kind) -> Result<Held<'_>, Refusal>
+    ensures value { keeps result holder ≡ item_at (content_of kind) (piece part.entry) }
+    ensures shorter { IfOk result (λ h. length (piece h.rest).bytes < length (piece part.entry).bytes) }
+{
+    let at = part.place();
+    let taken = take_item(part).ok_or(Refusal::Malformed(at))?;
+    let content = taken.item.content_of(kind).ok_or(Refusal::Malformed(at))?;
+    Ok(Held {
+        content,
+        rest: taken.rest,
     })
 }
 
@@ -43,17 +70,7 @@ pub fn take_sequence(part: Part<'_>) -> Result<Held<'_>, Refusal>
     ensures value { keeps result holder ≡ item_at is_sequence (piece part.entry) }
     ensures shorter { IfOk result (λ h. length (piece h.rest).bytes < length (piece part.entry).bytes) }
 {
-    let at = part.place();
-    let Some(taken) = take_item(part) else {
-        return Err(Refusal::Malformed(at));
-    };
-    let Item::Sequence(content) = taken.item else {
-        return Err(Refusal::Malformed(at));
-    };
-    Ok(Held {
-        content,
-        rest: taken.rest,
-    })
+    take_kind(part, Kind::Sequence)
 }
 
 // An OCTET STRING, with which a part must begin.
@@ -61,17 +78,7 @@ pub fn take_octets(part: Part<'_>) -> Result<Held<'_>, Refusal>
     ensures value { keeps result holder ≡ item_at is_octets (piece part.entry) }
     ensures shorter { IfOk result (λ h. length (piece h.rest).bytes < length (piece part.entry).bytes) }
 {
-    let at = part.place();
-    let Some(taken) = take_item(part) else {
-        return Err(Refusal::Malformed(at));
-    };
-    let Item::Octets(content) = taken.item else {
-        return Err(Refusal::Malformed(at));
-    };
-    Ok(Held {
-        content,
-        rest: taken.rest,
-    })
+    take_kind(part, Kind::Octets)
 }
 
 // An object identifier, with which a part must begin.
@@ -79,27 +86,14 @@ pub fn take_identifier(part: Part<'_>) -> Result<Held<'_>, Refusal>
     ensures value { keeps result holder ≡ item_at is_identifier (piece part.entry) }
     ensures shorter { IfOk result (λ h. length (piece h.rest).bytes < length (piece part.entry).bytes) }
 {
-    let at = part.place();
-    let Some(taken) = take_item(part) else {
-        return Err(Refusal::Malformed(at));
-    };
-    let Item::Identifier(content) = taken.item else {
-        return Err(Refusal::Malformed(at));
-    };
-    Ok(Held {
-        content,
-        rest: taken.rest,
-    })
+    take_kind(part, Kind::Identifier)
 }
 
 // Whether the content of a BOOLEAN is 00 or FF.
 fn is_truth(content: &[u8]) -> bool
     ensures { result ≡ truth content.now }
 {
-    match content {
-        [0x00] | [0xFF] => true,
-        _ => false,
-    }
+    matches!(content, [0x00] | [0xFF])
 }
 
 // What follows a BOOLEAN, if the part begins with one; any other item stays where it is.
@@ -107,9 +101,7 @@ pub fn skip_boolean(part: Part<'_>) -> Result<Part<'_>, Refusal>
     ensures { keeps result piece ≡ after_boolean (piece part.entry) }
 {
     let at = part.place();
-    let Some(taken) = take_item(part) else {
-        return Err(Refusal::Malformed(at));
-    };
+    let taken = take_item(part).ok_or(Refusal::Malformed(at))?;
     let Item::Boolean(content) = taken.item else {
         return Ok(part);
     };

@@ -25,6 +25,15 @@ pub enum Item<'a> {
     Field(u8, Part<'a>),
 }
 
+// A kind of item that is known by its content alone.
+#[derive(Clone, Copy, PartialEq, Eq, Debug)]
+pub enum Kind {
+    Boolean,
+    Octets,
+    Identifier,
+    Sequence,
+}
+
 // The first item of a part, and what follows it.
 #[derive(Clone, Copy)]
 pub struct Taken<'a> {
