@@ -54,13 +54,15 @@ impl<'a> Item<'a> {
 // An item of a kind, with which a part must begin.
 fn take_kind(part: Part<'_>, kind: Kind) -> Result<Held<'_>, Refusal>
     ensures value { keeps result holder ≡ item_at (content_of kind) (piece part.entry) }
+    ensures place { IfOk result (λ h. h.at ≡ (piece part.entry).at) }
     ensures shorter { IfOk result (λ h. length (piece h.rest).bytes < length (piece part.entry).bytes) }
 {
     let at = part.place();
     let taken = take_item(part).ok_or(Refusal::Malformed(at))?;
-    let content = taken.item.content_of(kind).ok_or(Refusal::Malformed(at))?;
+    let content = taken.item.content_of(kind);
     Ok(Held {
-        content,
+        at,
+        content: content.ok_or(Refusal::Malformed(at))?,
         rest: taken.rest,
     })
 }
@@ -68,6 +70,7 @@ fn take_kind(part: Part<'_>, kind: Kind) -> Result<Held<'_>, Refusal>
 // A SEQUENCE, with which a part must begin.
 pub fn take_sequence(part: Part<'_>) -> Result<Held<'_>, Refusal>
     ensures value { keeps result holder ≡ item_at is_sequence (piece part.entry) }
+    ensures place { IfOk result (λ h. h.at ≡ (piece part.entry).at) }
     ensures shorter { IfOk result (λ h. length (piece h.rest).bytes < length (piece part.entry).bytes) }
 {
     take_kind(part, Kind::Sequence)
@@ -76,6 +79,7 @@ pub fn take_sequence(part: Part<'_>) -> Result<Held<'_>, Refusal>
 // An OCTET STRING, with which a part must begin.
 pub fn take_octets(part: Part<'_>) -> Result<Held<'_>, Refusal>
     ensures value { keeps result holder ≡ item_at is_octets (piece part.entry) }
+    ensures place { IfOk result (λ h. h.at ≡ (piece part.entry).at) }
     ensures shorter { IfOk result (λ h. length (piece h.rest).bytes < length (piece part.entry).bytes) }
 {
     take_kind(part, Kind::Octets)
@@ -84,6 +88,7 @@ pub fn take_octets(part: Part<'_>) -> Result<Held<'_>, Refusal>
 // An object identifier, with which a part must begin.
 pub fn take_identifier(part: Part<'_>) -> Result<Held<'_>, Refusal>
     ensures value { keeps result holder ≡ item_at is_identifier (piece part.entry) }
+    ensures place { IfOk result (λ h. h.at ≡ (piece part.entry).at) }
     ensures shorter { IfOk result (λ h. length (piece h.rest).bytes < length (piece part.entry).bytes) }
 {
     take_kind(part, Kind::Identifier)

@@ -41,9 +41,10 @@ pub struct Taken<'a> {
     pub rest: Part<'a>,
 }
 
-// The content of an item, and what follows the item.
+// An item that holds something: its place, its content, and what follows it.
 #[derive(Clone, Copy)]
 pub struct Held<'a> {
+    pub at: usize,
     pub content: Part<'a>,
     pub rest: Part<'a>,
 }

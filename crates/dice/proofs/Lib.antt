@@ -1,5 +1,6 @@
 pub mod Items
 pub mod Gathers
 pub mod Spoken
+pub mod Tags
 pub mod Added
 pub mod Carried

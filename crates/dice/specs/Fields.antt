@@ -1,4 +1,4 @@
-use Rattle.std.specs.Prelude.{ℕ, ◌%◌, Bool, true, cond, ◌||◌, List, length, Some, None, Ok, Err, ◌==◌, nat_lt}
+use Rattle.std.specs.Prelude.{◌≡◌, ◌≢◌, Result, ℕ, ◌%◌, Bool, true, cond, ◌||◌, List, length, Some, None, Ok, Err, ◌==◌, nat_lt}
 use Rattle.refusals.specs.Reading.{Outcome, onward, keeps, need, or_refuse, above}
 use Rattle.refusals.specs.declared.Refusal.TheVariants.{Malformed, Unknown, Missing}
 use Rattle.claims.specs.Environments.{no_environment, with_class, with_vendor, with_model, with_layer, with_index}
@@ -10,10 +10,13 @@ use Rattle.der.specs.Contents.{bytes_in, shortest, integer_in}
 use Rattle.parts.specs.Holders.{Element, elements_in}
 use Rattle.der.specs.Items.{item_of}
 use Rattle.parts.specs.Parts.{some, none, before}
-use Rattle.der.specs.Kinds.{is_field, is_sequence, item_at}
+use Rattle.der.specs.Kinds.{Holder, is_field, is_sequence, item_at}
 use Rattle.parts.specs.Parts.{Piece}
 use Rattle.dice.specs.Digests.{digests_in}
 use Rattle.dice.specs.Flags.{flags_in}
+use Rattle.dice.specs.declared.kinds.Field.{Field}
+use Rattle.dice.specs.declared.kinds.Field.TheVariants.{Vendor, Model, Version, Svn, Layer, Index, Digests, Flags, Raw, Class}
+use Rattle.dice.specs.declared.kinds.UnknownTag.{UnknownTag}
 use Rattle.dice.specs.declared.kinds.Fields.{Fields}
 
 -- a claim of nothing yet; boot records have no element key
@@ -25,6 +28,24 @@ in_environment c e = record { environment = e; key = c.key; values = c.values }
 
 abbrev pub in_values : Claim → Values → Claim
 in_values c v = record { environment = c.environment; key = c.key; values = v }
+
+-- the tag of a field
+abbrev pub tag_of : Field → ℕ
+tag_of Vendor = 0x80
+tag_of Model = 0x81
+tag_of Version = 0x82
+tag_of Svn = 0x83
+tag_of Layer = 0x84
+tag_of Index = 0x85
+tag_of Digests = 0xA6
+tag_of Flags = 0x87
+tag_of Raw = 0x88
+tag_of Class = 0x89
+
+-- the field whose tag this is; or it is the tag of none
+abbrev pub IsTagged : ℕ → Result Field UnknownTag → Type 0
+IsTagged tag (Ok field) = tag_of field ≡ tag
+IsTagged tag (Err error) = (error.0 ≡ tag) × ((field : Field) → tag_of field ≢ tag)
 
 -- numbers are shortest INTEGERs, and flags have their count of unused bits
 abbrev pub formed : ℕ → List ℕ → Bool
@@ -79,12 +100,14 @@ field_at s p =
 abbrev pub no_fields : Fields
 no_fields = record { last = None; claim = no_claim }
 
--- DiceTcbInfo, which fills the OCTET STRING at a place
-abbrev pub info_in : ℕ → Piece → Outcome Claim
-info_in at p =
-    need (some p) (Missing at)
-    (onward (item_at is_sequence p) (λ h.
-    need (some h.content) (Missing p.at)
+-- the fields that fill the SEQUENCE at a place, behind which nothing follows
+abbrev pub fields_of : ℕ → Holder → Outcome Claim
+fields_of at h =
+    need (some h.content) (Missing at)
     (onward (elements_in field_at no_fields h.content) (λ f.
     need (none h.rest) (Malformed h.rest.at)
-    (Ok f.claim)))))
+    (Ok f.claim)))
+
+-- DiceTcbInfo, which fills the OCTET STRING at a place
+abbrev pub info_in : ℕ → Piece → Outcome Claim
+info_in at p = need (some p) (Missing at) (onward (item_at is_sequence p) (λ h. fields_of p.at h))

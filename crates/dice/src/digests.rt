@@ -6,47 +6,41 @@ use crate::kinds::Gathered;
 use crate::names::algorithm_named;
 use claims::kinds::{Algorithm, Digests};
 use der::items::{take_identifier, take_octets, take_sequence};
+use der::kinds::Held;
 use parts::holders::{Elements, read_elements};
 use parts::kinds::{Part, Read};
 use refusals::Refusal;
 
-// The OCTET STRING of a digest, which fills what is left of the SEQUENCE at a place.
+// The OCTET STRING of a digest, which fills what is left of its SEQUENCE.
 fn read_value(
     digests: Digests,
     algorithm: Algorithm,
-    at: usize,
-    part: Part<'_>,
+    sequence: Held<'_>,
 ) -> Result<Digests, Refusal>
-    ensures { result ≡ digest_value digests algorithm at (piece part.entry) }
+    ensures { result ≡ digest_value digests algorithm sequence.entry.at (piece sequence.entry.content) }
 {
-    if part.is_empty() {
-        return Err(Refusal::Missing(at));
-    }
-    let value = take_octets(part)?;
-    let Some(digests) = digests.with(algorithm, value.content.bytes()) else {
-        return Err(Refusal::OutOfLimits(part.place()));
-    };
-    if !value.rest.is_empty() {
-        return Err(Refusal::Malformed(value.rest.place()));
-    }
+    let value = take_octets(sequence.filled()?)?;
+    let with = digests.with(algorithm, value.content.bytes());
+    let digests = with.ok_or(Refusal::OutOfLimits(value.at))?;
+    value.ended()?;
     Ok(digests)
 }
 
 // The object identifier of an algorithm that did not come before, and the digest.
-fn read_parts(digests: Digests, at: usize, part: Part<'_>) -> Result<Digests, Refusal>
-    ensures { result ≡ digest_parts digests at (piece part.entry) }
+fn read_parts(digests: Digests, sequence: Held<'_>) -> Result<Digests, Refusal>
+    ensures { result ≡ digest_parts digests sequence.entry.at (piece sequence.entry.content) }
 {
-    if part.is_empty() {
-        return Err(Refusal::Missing(at));
-    }
-    let name = take_identifier(part)?;
-    let Some(algorithm) = algorithm_named(name.content.bytes()) else {
-        return Err(Refusal::Unknown(part.place()));
-    };
+    let name = take_identifier(sequence.filled()?)?;
+    let named = algorithm_named(name.content.bytes());
+    let algorithm = named.ok_or(Refusal::Unknown(name.at))?;
     if digests.has(algorithm) {
-        return Err(Refusal::Unknown(part.place()));
+        return Err(Refusal::Unknown(name.at));
     }
-    read_value(digests, algorithm, at, name.rest)
+    let left = Held {
+        content: name.rest,
+        ..sequence
+    };
+    read_value(digests, algorithm, left)
 }
 
 impl Elements for Gathered {
@@ -54,24 +48,21 @@ impl Elements for Gathered {
 
     fn read_element(self, part: Part<'_>) -> Result<Read<Gathered>, Refusal> {
         let sequence = take_sequence(part)?;
-        let digests = read_parts(self.digests, part.place(), sequence.content)?;
+        let digests = read_parts(self.digests, sequence)?;
         Ok(Read {
             value: Gathered { digests },
-            size: part.bytes().len() - sequence.rest.bytes().len(),
+            size: part.before(sequence.rest),
         })
     }
 }
 
-// The digests of the field at a place.
-pub(crate) fn read_digests(at: usize, part: Part<'_>) -> Result<Digests, Refusal>
-    ensures { result ≡ digests_in at (piece part.entry) }
+// The digests of a field.
+pub(crate) fn read_digests(field: Held<'_>) -> Result<Digests, Refusal>
+    ensures { result ≡ digests_in field.entry.at (piece field.entry.content) }
 {
-    if part.is_empty() {
-        return Err(Refusal::Missing(at));
-    }
     let start = Gathered {
         digests: Digests::NONE,
     };
-    let gathered = read_elements(part, start)?;
+    let gathered = read_elements(field.filled()?, start)?;
     Ok(gathered.digests)
 }

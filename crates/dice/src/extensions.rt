@@ -1,4 +1,4 @@
-ghost use Rattle.std.specs.Prelude.{◌≡◌, ℕ};
+ghost use Rattle.std.specs.Prelude.{◌≡◌};
 ghost use Rattle.parts.specs.Parts.{piece};
 ghost use Rattle.dice.specs.Extensions.{ueid_in, held_by, again, extension_value, after_name, extension_parts, extension_at};
 
@@ -6,51 +6,35 @@ use crate::fields::read_info;
 use crate::kinds::{Extension, Extensions};
 use crate::names::extension_of;
 use claims::kinds::Bytes;
-use der::contents::read_bytes;
 use der::items::{skip_boolean, take_identifier, take_octets, take_sequence};
+use der::kinds::Held;
 use parts::holders::Elements;
 use parts::kinds::{Part, Read};
 use refusals::Refusal;
 
-// DiceUeid, which fills the OCTET STRING at a place: a SEQUENCE of one OCTET STRING, the instance.
-fn read_ueid(at: usize, part: Part<'_>) -> Result<Bytes<33>, Refusal>
-    ensures { result ≡ ueid_in at (piece part.entry) }
+// DiceUeid, which fills an OCTET STRING: a SEQUENCE of one OCTET STRING, the instance.
+fn read_ueid(octets: Held<'_>) -> Result<Bytes<33>, Refusal>
+    ensures { result ≡ ueid_in octets.entry.at (piece octets.entry.content) }
 {
-    if part.is_empty() {
-        return Err(Refusal::Missing(at));
-    }
-    let sequence = take_sequence(part)?;
-    let content = sequence.content;
-    if content.is_empty() {
-        return Err(Refusal::Missing(part.place()));
-    }
-    let value = take_octets(content)?;
-    let instance = read_bytes(value.content.bytes(), content.place(), 7)?;
-    if !value.rest.is_empty() {
-        return Err(Refusal::Malformed(value.rest.place()));
-    }
-    if !sequence.rest.is_empty() {
-        return Err(Refusal::Malformed(sequence.rest.place()));
-    }
+    let sequence = take_sequence(octets.filled()?)?;
+    let value = take_octets(sequence.filled()?)?;
+    let instance = value.read_bytes(7)?;
+    value.ended()?;
+    sequence.ended()?;
     Ok(instance)
 }
 
-// What the OCTET STRING at a place holds.
-fn read_held(
-    name: Extension,
-    found: Extensions,
-    at: usize,
-    part: Part<'_>,
-) -> Result<Extensions, Refusal>
-    ensures { result ≡ held_by name found at (piece part.entry) }
+// What an OCTET STRING holds.
+fn read_held(name: Extension, found: Extensions, octets: Held<'_>) -> Result<Extensions, Refusal>
+    ensures { result ≡ held_by name found octets.entry.at (piece octets.entry.content) }
 {
     match name {
         Extension::TcbInfo => Ok(Extensions {
-            info: Some(read_info(at, part)?),
+            info: Some(read_info(octets)?),
             ..found
         }),
         Extension::Ueid => Ok(Extensions {
-            instance: Some(read_ueid(at, part)?),
+            instance: Some(read_ueid(octets)?),
             ..found
         }),
         Extension::Other => Ok(found),
@@ -68,23 +52,17 @@ fn is_again(name: Extension, found: &Extensions) -> bool
     }
 }
 
-// The OCTET STRING, which fills what is left of the extension at a place.
+// The OCTET STRING, which fills what is left of an extension.
 fn read_value(
     name: Extension,
     found: Extensions,
-    at: usize,
-    part: Part<'_>,
+    extension: Held<'_>,
 ) -> Result<Extensions, Refusal>
-    ensures { result ≡ extension_value name found at (piece part.entry) }
+    ensures { result ≡ extension_value name found extension.entry.at (piece extension.entry.content) }
 {
-    if part.is_empty() {
-        return Err(Refusal::Missing(at));
-    }
-    let value = take_octets(part)?;
-    let found = read_held(name, found, part.place(), value.content)?;
-    if !value.rest.is_empty() {
-        return Err(Refusal::Malformed(value.rest.place()));
-    }
+    let value = take_octets(extension.filled()?)?;
+    let found = read_held(name, found, value)?;
+    value.ended()?;
     Ok(found)
 }
 
@@ -92,31 +70,31 @@ fn read_value(
 fn read_after_name(
     name: Extension,
     found: Extensions,
-    at: usize,
-    part: Part<'_>,
+    extension: Held<'_>,
 ) -> Result<Extensions, Refusal>
-    ensures { result ≡ after_name name found at (piece part.entry) }
+    ensures { result ≡ after_name name found extension.entry.at (piece extension.entry.content) }
 {
-    if part.is_empty() {
-        return Err(Refusal::Missing(at));
-    }
-    let rest = skip_boolean(part)?;
-    read_value(name, found, at, rest)
+    let left = Held {
+        content: skip_boolean(extension.filled()?)?,
+        ..extension
+    };
+    read_value(name, found, left)
 }
 
-// The parts of the extension at a place.
-fn read_parts(found: Extensions, at: usize, part: Part<'_>) -> Result<Extensions, Refusal>
-    ensures { result ≡ extension_parts found at (piece part.entry) }
+// The parts of an extension.
+fn read_parts(found: Extensions, extension: Held<'_>) -> Result<Extensions, Refusal>
+    ensures { result ≡ extension_parts found extension.entry.at (piece extension.entry.content) }
 {
-    if part.is_empty() {
-        return Err(Refusal::Missing(at));
-    }
-    let identifier = take_identifier(part)?;
+    let identifier = take_identifier(extension.filled()?)?;
     let name = extension_of(identifier.content.bytes());
     if is_again(name, &found) {
-        return Err(Refusal::Unknown(at));
+        return Err(Refusal::Unknown(extension.at));
     }
-    read_after_name(name, found, at, identifier.rest)
+    let left = Held {
+        content: identifier.rest,
+        ..extension
+    };
+    read_after_name(name, found, left)
 }
 
 impl Elements for Extensions {
@@ -124,10 +102,10 @@ impl Elements for Extensions {
 
     fn read_element(self, part: Part<'_>) -> Result<Read<Extensions>, Refusal> {
         let sequence = take_sequence(part)?;
-        let value = read_parts(self, part.place(), sequence.content)?;
+        let value = read_parts(self, sequence)?;
         Ok(Read {
             value,
-            size: part.bytes().len() - sequence.rest.bytes().len(),
+            size: part.before(sequence.rest),
         })
     }
 }

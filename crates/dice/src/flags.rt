@@ -1,7 +1,9 @@
 ghost use Rattle.std.specs.Prelude.{◌≡◌, ℕ, ◌<◌, ◌≤◌, length, slice_index};
+ghost use Rattle.parts.specs.Parts.{piece};
 ghost use Rattle.dice.specs.Flags.{bit_set, true_when_set, flag_of, flags_of, padded, flags_in};
 
 use claims::kinds::Flags;
+use der::kinds::Held;
 use refusals::Refusal;
 
 // Whether a bit is sent and set.
@@ -9,12 +11,10 @@ fn bit_set(content: &[u8], k: usize) -> bool
     requires { k < 64 }
     ensures { result ≡ bit_set content.now k }
 {
-    let at = 1 + k / 8;
-    if at >= content.len() {
-        return false;
-    }
     let shift = 7 - k % 8;
-    content[at] / (1 << shift) % 2 == 1
+    content
+        .get(1 + k / 8)
+        .is_some_and(|byte| *byte / (1 << shift) % 2 == 1)
 }
 
 // The flag of a bit, by the sense of its number.
@@ -58,17 +58,13 @@ fn is_padded(content: &[u8]) -> bool
 }
 
 // A count of unused bits, then 0 to 4 bytes of bits.
-pub(crate) fn read_flags(content: &[u8], at: usize) -> Result<Flags, Refusal>
-    ensures { result ≡ flags_in at content.now }
+pub(crate) fn read_flags(field: Held<'_>) -> Result<Flags, Refusal>
+    ensures { result ≡ flags_in field.entry.at (piece field.entry.content).bytes }
 {
-    if content.is_empty() {
-        return Err(Refusal::Malformed(at));
-    }
-    if content.len() > 5 || content[0] > 7 {
-        return Err(Refusal::OutOfLimits(at));
-    }
-    if !is_padded(content) {
-        return Err(Refusal::OutOfLimits(at));
+    let content = field.content.bytes();
+    let unused = *content.first().ok_or(Refusal::Malformed(field.at))?;
+    if content.len() > 5 || unused > 7 || !is_padded(content) {
+        return Err(Refusal::OutOfLimits(field.at));
     }
     Ok(flags_of(content))
 }

@@ -4,6 +4,25 @@ use claims::kinds::{Bytes, Claim, Digests};
 #[derive(Clone, Copy)]
 pub struct Dice;
 
+// A field of DiceTcbInfo.
+#[derive(Clone, Copy, PartialEq, Eq, Debug)]
+pub enum Field {
+    Vendor,
+    Model,
+    Version,
+    Svn,
+    Layer,
+    Index,
+    Digests,
+    Flags,
+    Raw,
+    Class,
+}
+
+// A tag that is none of a field's.
+#[derive(Clone, Copy, PartialEq, Eq, Debug)]
+pub struct UnknownTag(pub u8);
+
 // What an extension holds, by its object identifier.
 #[derive(Clone, Copy)]
 pub enum Extension {

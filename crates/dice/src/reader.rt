@@ -1,12 +1,14 @@
 ghost use Rattle.std.specs.Prelude.{◌≡◌, ℕ, Bool};
 ghost use Rattle.evidence.specs.Readings.{counted, claim_at};
+ghost use Rattle.der.specs.Kinds.{holder};
 ghost use Rattle.dice.specs.Laws.{ReadAsCarried, Adding, FlagsBySense};
-ghost use Rattle.dice.specs.Messages.{on_instance, message_of, reading};
+ghost use Rattle.dice.specs.Messages.{on_instance, claim_told, message_of, reading};
 ghost use Rattle.dice.specs.Limits.{keeps_limits, refuses_as_reader};
 
 use crate::kinds::{Dice, Extensions};
 use claims::kinds::{Bytes, Claim, Environment};
 use der::items::take_sequence;
+use der::kinds::Held;
 use evidence::Format;
 use parts::holders::read_elements;
 use parts::kinds::Part;
@@ -16,16 +18,26 @@ use refusals::Refusal;
 fn on_instance(claim: Claim, instance: Option<Bytes<33>>) -> Claim
     ensures { result ≡ on_instance claim instance }
 {
-    let Some(instance) = instance else {
-        return claim;
-    };
     Claim {
         environment: Environment {
-            instance: Some(instance),
+            instance: instance.or(claim.environment.instance),
             ..claim.environment
         },
         ..claim
     }
+}
+
+// The claim that the extensions of a SEQUENCE told, behind which nothing follows; it must have an environment and a value.
+fn claim_told(found: Extensions, sequence: Held<'_>) -> Result<Claim, Refusal>
+    ensures { result ≡ claim_told found (holder sequence.entry) }
+{
+    let info = found.info.ok_or(Refusal::Missing(0))?;
+    sequence.ended()?;
+    let claim = on_instance(info, found.instance);
+    if !claim.stands() {
+        return Err(Refusal::Missing(0));
+    }
+    Ok(claim)
 }
 
 // The claim of a message.
@@ -33,25 +45,12 @@ fn read_message(message: &[u8]) -> Result<Claim, Refusal>
     ensures { result ≡ message_of message.now }
 {
     let sequence = take_sequence(Part::whole(message))?;
-    if sequence.content.is_empty() {
-        return Err(Refusal::Missing(0));
-    }
     let start = Extensions {
         info: None,
         instance: None,
     };
-    let found = read_elements(sequence.content, start)?;
-    let Some(info) = found.info else {
-        return Err(Refusal::Missing(0));
-    };
-    if !sequence.rest.is_empty() {
-        return Err(Refusal::Malformed(sequence.rest.place()));
-    }
-    let claim = on_instance(info, found.instance);
-    if !claim.stands() {
-        return Err(Refusal::Missing(0));
-    }
-    Ok(claim)
+    let found = read_elements(sequence.filled()?, start)?;
+    claim_told(found, sequence)
 }
 
 // How many claims a message has.

@@ -1,5 +1,5 @@
 ghost use Rattle.std.specs.Prelude.{◌≡◌, ℕ, ◌+◌, ◌-◌, ◌<◌, ◌≤◌, Bool, length, drop};
-ghost use Rattle.parts.specs.Parts.{piece, whole_of, after, front, none};
+ghost use Rattle.parts.specs.Parts.{piece, whole_of, after, front, none, before};
 
 use crate::kinds::Part;
 
@@ -63,5 +63,12 @@ impl<'a> Part<'a> {
             message: &self.message[..end],
             ..self
         }
+    }
+
+    // How many bytes stand before the rest of the part.
+    pub fn before(self, rest: Part<'_>) -> usize
+        ensures { result ≡ before (piece self.entry) (piece rest.entry) }
+    {
+        self.bytes().len().saturating_sub(rest.bytes().len())
     }
 }
