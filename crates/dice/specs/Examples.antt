@@ -5,7 +5,8 @@ use Rattle.claims.specs.Bytes.{bounded}
 use Rattle.claims.specs.Environments.{no_environment, with_class}
 use Rattle.claims.specs.Values.{no_values, with_svn}
 use Rattle.evidence.specs.Readings.{Reading}
-use Rattle.dice.specs.Fields.{no_claim, in_environment, in_values}
+use Rattle.claims.specs.Claims.{no_claim}
+use Rattle.dice.specs.Fields.{in_environment, in_values}
 use Rattle.dice.specs.Messages.{reading}
 
 -- a message, and what comes of it

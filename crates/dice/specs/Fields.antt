@@ -1,8 +1,9 @@
 use Rattle.std.specs.Prelude.{◌≡◌, ◌≢◌, Result, ℕ, ◌%◌, Bool, true, cond, ◌||◌, List, length, Some, None, Ok, Err, ◌==◌, nat_lt}
 use Rattle.refusals.specs.Reading.{Outcome, onward, keeps, need, or_refuse, above}
 use Rattle.refusals.specs.declared.Refusal.TheVariants.{Malformed, Unknown, Missing}
-use Rattle.claims.specs.Environments.{no_environment, with_class, with_vendor, with_model, with_layer, with_index}
-use Rattle.claims.specs.Values.{no_values, with_version, with_svn, with_digests, with_flags, with_raw}
+use Rattle.claims.specs.Claims.{no_claim}
+use Rattle.claims.specs.Environments.{with_class, with_vendor, with_model, with_layer, with_index}
+use Rattle.claims.specs.Values.{with_version, with_svn, with_digests, with_flags, with_raw}
 use Rattle.claims.specs.declared.kinds.Environment.{Environment}
 use Rattle.claims.specs.declared.kinds.Values.{Values}
 use Rattle.claims.specs.declared.kinds.Claim.{Claim}
@@ -18,10 +19,6 @@ use Rattle.dice.specs.declared.kinds.Field.{Field}
 use Rattle.dice.specs.declared.kinds.Field.TheVariants.{Vendor, Model, Version, Svn, Layer, Index, Digests, Flags, Raw, Class}
 use Rattle.dice.specs.declared.kinds.UnknownTag.{UnknownTag}
 use Rattle.dice.specs.declared.kinds.Fields.{Fields}
-
--- a claim of nothing yet; boot records have no element key
-abbrev pub no_claim : Claim
-no_claim = record { environment = no_environment; key = None; values = no_values }
 
 abbrev pub in_environment : Claim → Environment → Claim
 in_environment c e = record { environment = e; key = c.key; values = c.values }

@@ -31,7 +31,8 @@ use Rattle.evidence.specs.Readings.{KeepsLimits, RefusesAsReader}
 use Rattle.dice.specs.Names.{algorithm_named, extension_of}
 use Rattle.dice.specs.Flags.{flags_of, padded, flags_in}
 use Rattle.dice.specs.Digests.{digest_value, digest_parts, digest_at, digests_in}
-use Rattle.dice.specs.Fields.{no_claim, in_environment, in_values, formed, environment_field, value_field, of_values, field_says, field_at, no_fields, info_in}
+use Rattle.claims.specs.Claims.{no_claim}
+use Rattle.dice.specs.Fields.{in_environment, in_values, formed, environment_field, value_field, of_values, field_says, field_at, no_fields, info_in}
 use Rattle.dice.specs.Extensions.{ueid_in, held_by, again, extension_value, after_name, extension_parts, extension_at, no_extensions}
 use Rattle.dice.specs.Messages.{on_instance, message_of, reading}
 use Rattle.dice.specs.declared.kinds.Gathered.{Gathered}

@@ -1,7 +1,7 @@
-use Rattle.std.specs.Prelude.{ℕ, ◌≤◌, List, length, IfOk, IfErr}
+use Rattle.std.specs.Prelude.{ℕ, List, length, IfOk, IfErr}
 use Rattle.std.specs.Option.{ok_or}
 use Rattle.std.specs.List.{AllByRecursion, slice_get}
-use Rattle.refusals.specs.Figures.{number}
+use Rattle.refusals.specs.Figures.{OfReader}
 use Rattle.refusals.specs.Reading.{Outcome, onward, keeps}
 use Rattle.refusals.specs.declared.Refusal.TheVariants.{NoSuchNumber}
 use Rattle.claims.specs.Limits.{Within}
@@ -25,4 +25,4 @@ KeepsLimits r = IfOk r (AllByRecursion Within)
 
 -- a reader refuses for an item or a record, and for nothing else
 abbrev pub RefusesAsReader : Reading → Type 0
-RefusesAsReader r = IfErr r (λ e. (5 ≤ number e) × (number e ≤ 8))
+RefusesAsReader r = IfErr r OfReader

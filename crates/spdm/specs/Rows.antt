@@ -1,14 +1,14 @@
 use Rattle.std.specs.Prelude.{ℕ, zero, suc, ◌+◌, cond, List, [], ◌∷◌, length, drop, Some, None, Ok, Option, ◌==◌}
-use Rattle.std.specs.List.{slice_get}
-use Rattle.claims.specs.declared.kinds.Claim.{Claim}
 use Rattle.refusals.specs.Reading.{Outcome, onward, keeps, need, or_refuse, above}
 use Rattle.refusals.specs.declared.Refusal.TheVariants.{Malformed, Unknown, OutOfLimits}
+use Rattle.parts.specs.Holders.{Element}
+use Rattle.parts.specs.Picks.{noted}
 use Rattle.evidence.specs.Readings.{Reading}
 use Rattle.spdm.specs.Blocks.{block_of}
 use Rattle.spdm.specs.Claims.{claim_of}
 use Rattle.spdm.specs.declared.kinds.Setup.{Setup}
 use Rattle.spdm.specs.declared.kinds.Entry.{Entry}
-use Rattle.spdm.specs.declared.kinds.Pick.{Pick}
+use Rattle.spdm.specs.declared.kinds.Row.{Row}
 
 -- what the block at the beginning of m gives; it stands at the offset `at`, behind a block of the index `last`
 abbrev pub entry_of : Setup → Option ℕ → ℕ → List ℕ → Outcome Entry
@@ -30,10 +30,10 @@ row_of s (suc n) last at m =
 abbrev pub reading : Setup → List ℕ → Reading
 reading s m = row_of s (length m) None 0 m
 
--- what is kept of a list of claims: their number, and the one of the number `wanted`
-abbrev pub picked : ℕ → List Claim → Pick
-picked wanted cs = record { seen = length cs; kept = slice_get cs wanted }
-
--- one claim more
-abbrev pub noted : ℕ → Pick → Claim → Pick
-noted wanted p c = record { seen = p.seen + 1; kept = cond (p.seen == wanted) (Some c) p.kept }
+-- a block, as an element of a row
+abbrev pub block_at : Element Row
+block_at r p =
+    keeps (entry_of r.setup r.last p.at p.bytes) (λ e. record {
+      value = record { setup = r.setup; wanted = r.wanted; last = Some e.index; pick = noted r.wanted r.pick e.claim };
+      size = e.size;
+    })

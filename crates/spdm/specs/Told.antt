@@ -55,6 +55,13 @@ module _ (s : Setup) (last : Option ℕ) (at : ℕ) (m : List ℕ) (some : 0 < l
   pub entry_told : Told s last at m (entry_of s last at m)
   entry_told = told_block (block_of m) refl
 
+-- an entry has no more bytes than there are
+pub entry_fits : (s : Setup) (last : Option ℕ) (at : ℕ) (m : List ℕ) → 0 < length m → (e : Entry) → entry_of s last at m ≡ Ok e → e.size ≤ length m
+entry_fits s last at m some e h =
+    let P : Outcome Entry → Type 0 = λ r. Told s last at m r in
+    let g : Good s last m e = subst P h (entry_told s last at m some) in
+    omega (arith, g.size, written_long g.block g.begins.bytes g.begins.written, ap length g.begins.whole, length-append g.begins.bytes g.begins.rest)
+
 -- the same the other way round
 pub good_entry : (s : Setup) (last : Option ℕ) (at : ℕ) (m : List ℕ) (b : Block) (c : Claim) → Begins m b → above last b.index ≡ true → Makes s b c
     → entry_of s last at m ≡ Ok (record { index = b.index; size = 7 + length b.value; claim = c })

@@ -1,11 +1,14 @@
 ghost use Rattle.std.specs.Prelude.{◌≡◌, ℕ, ◌+◌, ◌≤◌, length, IfSome, IfOk};
 ghost use Rattle.std.specs.Option.{option_map};
+ghost use Rattle.parts.specs.Parts.{piece};
 ghost use Rattle.spdm.specs.Blocks.{block_of, parts};
 ghost use Rattle.spdm.specs.Claims.{svn_of, values_of, claim_of};
-ghost use Rattle.spdm.specs.Rows.{entry_of};
+ghost use Rattle.spdm.specs.Rows.{entry_of, block_at};
 
-use crate::kinds::{BlockRef, Entry, Setup};
+use crate::kinds::{BlockRef, Entry, Row, Setup};
 use claims::kinds::{Algorithm, Bytes, Claim, Digests, Environment, Values};
+use parts::holders::Elements;
+use parts::kinds::{Part, Read};
 use refusals::Refusal;
 use refusals::reading::rises;
 
@@ -27,8 +30,8 @@ fn first_block(bytes: &[u8]) -> Option<BlockRef<'_>>
     else {
         return None;
     };
-    let size = u16::from_le_bytes([*size_low, *size_high]) as usize;
-    let value_size = u16::from_le_bytes([*value_low, *value_high]) as usize;
+    let size = usize::from(u16::from_le_bytes([*size_low, *size_high]));
+    let value_size = usize::from(u16::from_le_bytes([*value_low, *value_high]));
     if size != value_size + 3 || value_size > rest.len() {
         return None;
     }
@@ -88,34 +91,42 @@ fn claim_of(setup: &Setup, block: &BlockRef) -> Option<Claim>
             class: Some(setup.class),
             ..Environment::NONE
         },
-        key: Some(block.index as u16),
+        key: Some(u16::from(block.index)),
         values,
     })
 }
 
-// What the block at the beginning of some bytes gives, which stand at an offset behind a block of the index `last`.
-pub fn read_entry(
-    setup: &Setup,
-    last: Option<u64>,
-    at: usize,
-    bytes: &[u8],
-) -> Result<Entry, Refusal>
-    ensures value { result ≡ entry_of setup.now last at bytes.now }
-    ensures within { IfOk result (λ e. (7 ≤ e.size) × (e.size ≤ length bytes.now)) }
+// What the block at the beginning of a part gives, which stands behind a block of the index `last`.
+fn read_entry(setup: &Setup, last: Option<u64>, part: Part<'_>) -> Result<Entry, Refusal>
+    ensures value { result ≡ entry_of setup.now last (piece part.entry).at (piece part.entry).bytes }
+    ensures within { IfOk result (λ e. (7 ≤ e.size) × (e.size ≤ length (piece part.entry).bytes)) }
 {
-    let Some(block) = first_block(bytes) else {
-        return Err(Refusal::Malformed(at));
-    };
-    let index = block.index as u64;
+    let at = part.place();
+    let block = first_block(part.bytes()).ok_or(Refusal::Malformed(at))?;
+    let index = u64::from(block.index);
     if !rises(last, index) {
         return Err(Refusal::Unknown(at));
     }
-    let Some(claim) = claim_of(setup, &block) else {
-        return Err(Refusal::OutOfLimits(at));
-    };
+    let claim = claim_of(setup, &block).ok_or(Refusal::OutOfLimits(at))?;
     Ok(Entry {
         index,
         size: 7 + block.value.len(),
         claim,
     })
+}
+
+impl Elements for Row {
+    ghost element = { block_at };
+
+    fn read_element(self, part: Part<'_>) -> Result<Read<Row>, Refusal> {
+        let entry = read_entry(&self.setup, self.last, part)?;
+        Ok(Read {
+            value: Row {
+                last: Some(entry.index),
+                pick: self.pick.note(self.wanted, entry.claim),
+                ..self
+            },
+            size: entry.size,
+        })
+    }
 }

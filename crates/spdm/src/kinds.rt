@@ -1,6 +1,7 @@
 ghost use Rattle.claims.specs.Limits.{Holds};
 
 use claims::kinds::{Algorithm, Bytes, Claim};
+use parts::kinds::Pick;
 
 // What a reader is set up with: the class that its claims speak of, and the algorithm of their digests.
 #[derive(Clone, Copy)]
@@ -33,9 +34,11 @@ pub struct Entry {
     pub claim: Claim,
 }
 
-// How many claims came so far, and the one that is wanted, once it came.
+// The blocks so far: the index of the last one, how many claims came by, and the one of the number `wanted`, once it came.
 #[derive(Clone, Copy)]
-pub struct Pick {
-    pub seen: usize,
-    pub kept: Option<Claim>,
+pub struct Row {
+    pub setup: Setup,
+    pub wanted: usize,
+    pub last: Option<u64>,
+    pub pick: Pick<Claim>,
 }

@@ -1,15 +1,17 @@
 ghost use Rattle.std.specs.Prelude.{◌≡◌, ℕ, ◌+◌, ◌^◌, ◌<◌};
 ghost use Rattle.refusals.specs.Reading.{keeps};
 ghost use Rattle.evidence.specs.Readings.{counted, claim_at};
+ghost use Rattle.parts.specs.Picks.{picked};
 ghost use Rattle.spdm.specs.Laws.{ReadAsRows};
 ghost use Rattle.spdm.specs.Setups.{setup_of};
-ghost use Rattle.spdm.specs.Rows.{reading, picked, noted};
+ghost use Rattle.spdm.specs.Rows.{reading};
 ghost use Rattle.spdm.specs.Told.{keeps_limits, refuses_as_reader};
 
-use crate::blocks::read_entry;
-use crate::kinds::{Pick, Setup, Spdm};
+use crate::kinds::{Row, Setup, Spdm};
 use claims::kinds::{Algorithm, Bytes, Claim};
 use evidence::Format;
+use parts::holders::read_elements;
+use parts::kinds::{Part, Pick};
 use refusals::Refusal;
 
 impl Spdm {
@@ -17,10 +19,8 @@ impl Spdm {
     pub fn new(class: &[u8], algorithm: u64) -> Result<Spdm, Refusal>
         ensures { keeps result (λ s. s.setup) ≡ setup_of class.now algorithm }
     {
-        let Some(class) = Bytes::new(class, 1) else {
-            return Err(Refusal::OutOfLimits(0));
-        };
-        let Some(algorithm) = Algorithm::from_number(algorithm) else {
+        let class = Bytes::new(class, 1).ok_or(Refusal::OutOfLimits(0))?;
+        let Ok(algorithm) = Algorithm::try_from(algorithm) else {
             return Err(Refusal::OutOfLimits(0));
         };
         Ok(Spdm {
@@ -29,40 +29,21 @@ impl Spdm {
     }
 }
 
-// One claim more came by.
-fn note(pick: Pick, wanted: usize, claim: Claim) -> Pick
-    requires { pick.seen + 1 < 2 ^ 64 }
-    ensures { result ≡ noted wanted pick claim }
-{
-    if pick.seen == wanted {
-        return Pick {
-            seen: pick.seen + 1,
-            kept: Some(claim),
-        };
-    }
-    Pick {
-        seen: pick.seen + 1,
-        kept: pick.kept,
-    }
-}
-
 // Reads every block of the message, and keeps the claim of a number.
-fn walk(setup: &Setup, message: &[u8], wanted: usize) -> Result<Pick, Refusal>
+fn walk(setup: &Setup, message: &[u8], wanted: usize) -> Result<Pick<Claim>, Refusal>
     ensures { result ≡ keeps (reading setup.now message.now) (picked wanted) }
 {
-    let mut at = 0;
-    let mut last = None;
-    let mut pick = Pick {
-        seen: 0,
-        kept: None,
+    let start = Row {
+        setup: *setup,
+        wanted,
+        last: None,
+        pick: Pick {
+            seen: 0,
+            kept: None,
+        },
     };
-    while at < message.len() {
-        let entry = read_entry(setup, last, at, &message[at..])?;
-        pick = note(pick, wanted, entry.claim);
-        last = Some(entry.index);
-        at += entry.size;
-    }
-    Ok(pick)
+    let row = read_elements(Part::whole(message), start)?;
+    Ok(row.pick)
 }
 
 impl Format for Spdm {
