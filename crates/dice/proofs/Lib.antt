@@ -4,3 +4,4 @@ pub mod Spoken
 pub mod Tags
 pub mod Added
 pub mod Carried
+pub mod Proved

@@ -8,7 +8,6 @@ use refusals::Refusal;
 
 // Whether a bit is sent and set.
 fn bit_set(content: &[u8], k: usize) -> bool
-    requires { k < 64 }
     ensures { result ≡ bit_set content.now k }
 {
     let shift = 7 - k % 8;
@@ -19,7 +18,6 @@ fn bit_set(content: &[u8], k: usize) -> bool
 
 // The flag of a bit, by the sense of its number.
 fn flag_of(content: &[u8], k: usize) -> Option<bool>
-    requires { k < 64 }
     ensures { result ≡ flag_of content.now k }
 {
     let set = bit_set(content, k);

@@ -53,25 +53,6 @@ fn read_message(message: &[u8]) -> Result<Claim, Refusal>
     claim_told(found, sequence)
 }
 
-// How many claims a message has.
-fn count_of(message: &[u8]) -> Result<usize, Refusal>
-    ensures { result ≡ counted (reading message.now) }
-{
-    read_message(message)?;
-    Ok(1)
-}
-
-// The claim of a number.
-fn claim_of(message: &[u8], n: usize) -> Result<Claim, Refusal>
-    ensures { result ≡ claim_at (reading message.now) n }
-{
-    let claim = read_message(message)?;
-    if n > 0 {
-        return Err(Refusal::NoSuchNumber(1));
-    }
-    Ok(claim)
-}
-
 impl Format for Dice {
     ghost reads = { λ _. reading };
 
@@ -79,20 +60,27 @@ impl Format for Dice {
 
     ghost refusals = { λ format message. refuses_as_reader message };
 
+    #[tactic(auto, using(crate::proofs::Proved::carried))]
     fn count(&self, message: &[u8]) -> Result<usize, Refusal>
         ensures value { result ≡ counted (reading message.now) }
         ensures carried { ReadAsCarried message.now }
     {
-        count_of(message)
+        read_message(message)?;
+        Ok(1)
     }
 
+    #[tactic(auto, using(crate::proofs::Proved::carried, crate::proofs::Added::adding, crate::proofs::Added::flags_by_sense))]
     fn claim(&self, message: &[u8], n: usize) -> Result<Claim, Refusal>
         ensures value { result ≡ claim_at (reading message.now) n }
         ensures carried { ReadAsCarried message.now }
         ensures adding { Adding }
         ensures flags { FlagsBySense }
     {
-        claim_of(message, n)
+        let claim = read_message(message)?;
+        if n > 0 {
+            return Err(Refusal::NoSuchNumber(1));
+        }
+        Ok(claim)
     }
 }
 
