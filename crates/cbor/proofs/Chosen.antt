@@ -64,6 +64,6 @@ pub tagged_whole : (tag N least : ℕ) (p : Piece) (t : Read ℕ) (x : Read Part
     → Ok z ≡ tagged_bytes tag N least p
 tagged_whole tag N least p t x y z found same fits s kept value size =
     sym (
-      in_tag_taken (λ n. eqb n tag) (λ q. Malformed q.at) is_bytes (λ _ q c n. or_refuse (kept_from N least c.bytes) (OutOfLimits q.at) (λ b. Ok (sized b n))) p t (piece x.value) x.size found (eq-eqb t.value tag same) fits s
-      ∙ kept_sized (kept_from N least (piece x.value).bytes) x.size t.size (OutOfLimits p.at) y z kept value size
+    in_tag_taken (λ n. eqb n tag) (λ q. Malformed q.at) is_bytes (λ _ q c n. or_refuse (kept_from N least c.bytes) (OutOfLimits q.at) (λ b. Ok (sized b n))) p t (piece x.value) x.size found (eq-eqb t.value tag same) fits s
+    ∙ kept_sized (kept_from N least (piece x.value).bytes) x.size t.size (OutOfLimits p.at) y z kept value size
     )
