@@ -31,13 +31,13 @@ rest_after (Some h) p f e = elim (by_rest h p f e) [
     by_rest h p f e = grind (arith, nat_tests)
 
 -- an item has bytes behind it that stood in its part
-rest_fits : (p : Piece) (f : Front) → item_of p ≡ Some f → length f.rest.bytes ≤ length p.bytes
+pub rest_fits : (p : Piece) (f : Front) → item_of p ≡ Some f → length f.rest.bytes ≤ length p.bytes
 rest_fits p f e =
     let r = rest_after (head_of p.bytes) p f e in
     omega (arith, ap (λ (q : Piece). length q.bytes) r.1, length-drop r.0 p.bytes)
 
 -- what stands before the rest of what is behind n bytes
-before_behind : (p rest : Piece) (n : ℕ) → n ≤ length p.bytes → length rest.bytes ≤ length (after n p).bytes → n + before (after n p) rest ≡ before p rest
+pub before_behind : (p rest : Piece) (n : ℕ) → n ≤ length p.bytes → length rest.bytes ≤ length (after n p).bytes → n + before (after n p) rest ≡ before p rest
 before_behind p rest n h k = let l = length-drop n p.bytes in omega arith
 
 size_fits : {A : Type 0} {Kind : A → List ℕ → Type 0} (p : Piece) (x : Read A) → Begins Kind p x → x.size ≤ length p.bytes

@@ -1,5 +1,9 @@
-use Rattle.std.specs.Prelude.{ℕ, ◌+◌, Bool, true, false, cond, ◌&&◌, length, Some, None, Option, ◌==◌, nat_le}
-use Rattle.parts.specs.Parts.{Piece, piece, after, front}
+use Rattle.std.specs.Prelude.{◌≡◌, ℕ, ◌+◌, Bool, true, false, cond, ◌&&◌, length, Some, None, Option, ◌==◌, nat_le}
+use Rattle.std.specs.Option.{option_map}
+use Rattle.parts.specs.Parts.{Piece, piece, after, front, before}
+use Rattle.parts.specs.declared.kinds.Part.{Part}
+use Rattle.parts.specs.Reads.{of_size}
+use Rattle.parts.specs.declared.kinds.Read.{Read}
 use Rattle.cbor.specs.Heads.{head_of}
 use Rattle.cbor.specs.declared.kinds.Head.{Head}
 use Rattle.cbor.specs.declared.kinds.Item.{Item}
@@ -42,6 +46,10 @@ abbrev pub string_of : (Piece → Shape) → Head → Piece → Option Front
 string_of kind h p =
     cond (nat_le (h.size + h.argument) (length p.bytes))
     (Some (record { item = kind (front h.argument (after h.size p)); rest = after (h.size + h.argument) p })) None
+
+-- what makes an item of a part makes one of a kind
+abbrev pub Holds : (Part → Item → Type 0) → (Piece → Shape) → Type 0
+Holds makes kind = (p : Part) (i : Item) → makes p i → shape i ≡ kind (piece p)
 
 -- the item of a head, by its major type; of the simple values only false and true are items here
 abbrev pub by_major : Head → Piece → Option Front
@@ -128,3 +136,11 @@ is_truth (array x) = None
 is_truth (map x) = None
 is_truth (tag x) = None
 is_truth (truth x) = Some x
+
+-- what is chosen of the first item of a part, and how many bytes that item has
+abbrev pub chosen_from : {A : Type 0} → (Item → Option A → Type 0) → Piece → Option (Read A) → Option Taken → Type 0
+chosen_from chooses p r None = r ≡ None
+chosen_from {A} chooses p r (Some t) = (o : Option A) × chooses t.item o × (r ≡ of_size (before p (piece t.rest)) o)
+
+abbrev pub ChosenFrom : {A : Type 0} → (Item → Option A → Type 0) → Piece → Option (Read A) → Type 0
+ChosenFrom chooses p r = (first : Option Taken) × (option_map taken first ≡ item_of p) × chosen_from chooses p r first

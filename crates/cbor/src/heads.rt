@@ -3,7 +3,6 @@ ghost use Rattle.cbor.specs.Heads.{long_head, by_info, head_of};
 
 use crate::kinds::Head;
 use parts::numbers::read_big;
-use parts::parts::tail;
 
 // A head whose number stands in the `width` bytes after its first and must be at least `least`.
 fn long_head(width: usize, least: u64, bytes: &[u8]) -> Option<Head>
@@ -11,13 +10,8 @@ fn long_head(width: usize, least: u64, bytes: &[u8]) -> Option<Head>
     ensures value { result ≡ long_head width least bytes.now }
     ensures within { IfSome result (λ h. (0 < h.size) × (h.size ≤ length bytes.now)) }
 {
-    if bytes.len() < 1 + width {
-        return None;
-    }
-    let digits = tail(bytes, 1);
-    let Some(argument) = read_big(&digits[0..width]) else {
-        return None;
-    };
+    let digits = bytes.get(1..1 + width)?;
+    let argument = read_big(digits)?;
     if argument < least {
         return None;
     }
@@ -33,13 +27,11 @@ pub(crate) fn head_of(bytes: &[u8]) -> Option<Head>
     ensures value { result ≡ head_of bytes.now }
     ensures within { IfSome result (λ h. (0 < h.size) × (h.size ≤ length bytes.now)) }
 {
-    let [first, ..] = bytes else {
-        return None;
-    };
-    let info = *first % 32;
+    let first = *bytes.first()?;
+    let info = first % 32;
     if info < 24 {
         return Some(Head {
-            major: *first / 32,
+            major: first / 32,
             argument: info as u64,
             size: 1,
         });

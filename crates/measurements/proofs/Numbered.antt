@@ -1,14 +1,16 @@
-use Rattle.std.proofs.Common.{◌≡◌, ℕ, Bool, true, false, ◌&&◌, eqb, leb, List, ◌++◌, length, Some, Ok, Option, sym, refl, ap, ◌∙◌, subst, inl, inr, arith}
+use Rattle.std.proofs.Common.{◌≡◌, ℕ, ◌+◌, ◌<◌, ◌≤◌, Bool, true, false, ◌&&◌, eqb, leb, List, ◌++◌, length, Some, Ok, Err, Option, sym, refl, ap, ◌∙◌, subst, inl, inr, arith}
 use Rattle.std.proofs.lemmas.Bool.{and_parts, or_cases, eqb-true, le-leb, leb-true}
+use Rattle.std.proofs.lemmas.Bool.Decides.{nat_tests}
 use Rattle.refusals.specs.Reading.{Outcome, need, or_refuse}
 use Rattle.refusals.specs.declared.Refusal.TheVariants.{Malformed, OutOfLimits}
 use Rattle.refusals.proofs.Outcomes.{ok_same, some_same, or_refuse_back}
-use Rattle.parts.specs.Parts.{Piece}
+use Rattle.parts.specs.Parts.{Piece, after}
 use Rattle.parts.specs.declared.kinds.Read.{Read}
 use Rattle.cbor.specs.Encodes.{Headed, Number, number, tagged, Then, both, Stored, stored, Such}
 use Rattle.cbor.specs.Items.{Shape, unsigned, bytes, text, array, map, tag, truth, Front, item_of, is_unsigned, is_tag}
 use Rattle.cbor.specs.Reads.{Reads}
-use Rattle.cbor.specs.Scalars.{item_as}
+use Rattle.cbor.specs.Scalars.{item_as, tag_at}
+use Rattle.cbor.proofs.Chosen.{ItemTaken, in_tag_taken}
 use Rattle.cbor.proofs.Fields.{Back, stores_back}
 use Rattle.cbor.proofs.Joins.{begins_as, reads_such_stores, first_written}
 use Rattle.cbor.proofs.Rules.{reads_number, reads_number_to, reads_tag}
@@ -32,6 +34,18 @@ tagged_reads : (minimum : Bool) → Reads (tagged_svn minimum) (UnderTag minimum
 tagged_reads minimum =
     reads_in_tag (svn_tag minimum) (λ p. Malformed p.at) is_unsigned numbered (λ t p n. sizes_such (leb n most_svn) (OutOfLimits p.at) (svn_under t n)) (λ t. Stored (Such (Headed 0) (λ n. leb n most_svn)) (svn_under t))
     (λ t p. reads_such_stores reads_number (λ n. leb n most_svn) (svn_under t) (λ _. OutOfLimits p.at))
+
+-- a tag and the number behind it are one item
+
+module _ (minimum : Bool) (p : Piece) (t n : Read ℕ) (found : Ok t ≡ tag_at p) (passes : svn_tag minimum t.value ≡ true) (fits : t.size ≤ length p.bytes) (taken : ItemTaken is_unsigned (after t.size p) n.value n.size) where
+  tagged_taken : tagged_svn minimum p ≡ numbered t.value p n.value (t.size + n.size)
+  tagged_taken = in_tag_taken (svn_tag minimum) (λ q. Malformed q.at) is_unsigned numbered p t n.value n.size found passes fits taken
+
+  pub tagged_out : most_svn < n.value → Err (OutOfLimits p.at) ≡ tagged_svn minimum p
+  tagged_out out = sym (tagged_taken ∙ grind (arith, nat_tests))
+
+  pub tagged_whole : (x : Read Svn) → n.value ≤ most_svn → x.value ≡ svn_under t.value n.value → x.size ≡ t.size + n.size → Ok x ≡ tagged_svn minimum p
+  tagged_whole x within value size = sym (tagged_taken ∙ grind (arith, nat_tests))
 
 -- the tags by their numbers
 

@@ -1,10 +1,11 @@
 ghost use Rattle.std.specs.Prelude.{◌≡◌, ℕ, ◌<◌, ◌≤◌, Bool, length, IfOk};
 ghost use Rattle.parts.specs.Parts.{piece};
+ghost use Rattle.parts.specs.Reads.{TakenFrom};
 ghost use Rattle.measurements.specs.Digests.{algorithm_at, digest_bytes, digest_pair, digest_at, digest_array};
 
 use crate::kinds::InDigests;
 use cbor::holders::read_array_by;
-use cbor::items::take_item;
+use cbor::items::take_as;
 use cbor::kinds::Item;
 use cbor::scalars::{read_array_of, read_number};
 use claims::kinds::{Algorithm, Digests};
@@ -15,7 +16,7 @@ use refusals::Refusal;
 // The number of an algorithm that did not come before.
 fn read_algorithm(part: Part<'_>, digests: Digests) -> Result<Read<Algorithm>, Refusal>
     ensures value { result ≡ algorithm_at digests (piece part.entry) }
-    ensures within { IfOk result (λ x. (0 < x.size) × (x.size ≤ length (piece part.entry).bytes)) }
+    ensures within { TakenFrom (piece part.entry) result }
 {
     let number = read_number(part)?;
     let Some(algorithm) = Algorithm::from_number(number.value) else {
@@ -24,10 +25,7 @@ fn read_algorithm(part: Part<'_>, digests: Digests) -> Result<Read<Algorithm>, R
     if digests.has(algorithm) {
         return Err(Refusal::Unknown(part.place()));
     }
-    Ok(Read {
-        value: algorithm,
-        size: number.size,
-    })
+    Ok(number.map(|_| algorithm))
 }
 
 // The bytes of a digest, as many as its algorithm makes.
@@ -37,64 +35,41 @@ fn read_digest(
     algorithm: Algorithm,
 ) -> Result<Read<Digests>, Refusal>
     ensures value { result ≡ digest_bytes digests algorithm (piece part.entry) }
-    ensures within { IfOk result (λ x. (0 < x.size) × (x.size ≤ length (piece part.entry).bytes)) }
+    ensures within { TakenFrom (piece part.entry) result }
 {
-    let at = part.place();
-    let Some(taken) = take_item(part) else {
-        return Err(Refusal::Malformed(at));
-    };
-    let Item::Bytes(content) = taken.item else {
-        return Err(Refusal::Malformed(at));
-    };
-    let Some(value) = digests.with(algorithm, content.bytes()) else {
-        return Err(Refusal::OutOfLimits(at));
-    };
-    Ok(Read {
-        value,
-        size: part.bytes().len() - taken.rest.bytes().len(),
-    })
+    take_as(part, Item::bytes)
+        .ok_or(Refusal::Malformed(part.place()))?
+        .try_map(|content| digests.with(algorithm, content.bytes()))
+        .ok_or(Refusal::OutOfLimits(part.place()))
 }
 
 // An algorithm and its digest.
 fn read_pair(part: Part<'_>, digests: Digests) -> Result<Read<Digests>, Refusal>
     ensures value { result ≡ digest_pair digests (piece part.entry) }
-    ensures within { IfOk result (λ x. (0 < x.size) × (x.size ≤ length (piece part.entry).bytes)) }
+    ensures within { TakenFrom (piece part.entry) result }
 {
     let head = read_array_of(part, 2)?;
     let pair = part.after(head.size);
     let algorithm = read_algorithm(pair, digests)?;
     let digest = read_digest(pair.after(algorithm.size), digests, algorithm.value)?;
-    Ok(Read {
-        value: digest.value,
-        size: head.size + (algorithm.size + digest.size),
-    })
+    Ok(digest.behind(algorithm.size).behind(head.size))
 }
 
 impl Elements for InDigests {
     ghost element = { digest_at };
 
     fn read_element(self, part: Part<'_>) -> Result<Read<InDigests>, Refusal> {
-        let pair = read_pair(part, self.digests)?;
-        Ok(Read {
-            value: InDigests {
-                digests: pair.value,
-            },
-            size: pair.size,
-        })
+        Ok(read_pair(part, self.digests)?.map(|digests| InDigests { digests }))
     }
 }
 
 // An array of digests, in any order.
 pub(crate) fn read_digests(part: Part<'_>) -> Result<Read<Digests>, Refusal>
     ensures value { result ≡ digest_array (piece part.entry) }
-    ensures within { IfOk result (λ x. (0 < x.size) × (x.size ≤ length (piece part.entry).bytes)) }
+    ensures within { TakenFrom (piece part.entry) result }
 {
     let start = InDigests {
         digests: Digests::NONE,
     };
-    let array = read_array_by(part, start)?;
-    Ok(Read {
-        value: array.value.digests,
-        size: array.size,
-    })
+    Ok(read_array_by(part, start)?.map(|array| array.digests))
 }

@@ -1,5 +1,6 @@
 ghost use Rattle.std.specs.Prelude.{◌≡◌, ℕ, ◌<◌, ◌≤◌, length, IfOk};
 ghost use Rattle.parts.specs.Parts.{piece};
+ghost use Rattle.parts.specs.Reads.{TakenFrom};
 ghost use Rattle.measurements.specs.Flags.{flag_field, flag_map};
 
 use crate::kinds::InFlags;
@@ -19,23 +20,17 @@ impl Fields for InFlags {
         let flag = read_truth(part)?;
         let mut states = self.flags.states;
         states[key as usize] = Some(flag.value);
-        Ok(Read {
-            value: InFlags {
-                flags: Flags { states },
-            },
-            size: flag.size,
-        })
+        Ok(flag.map(|_| InFlags {
+            flags: Flags { states },
+        }))
     }
 }
 
 // A map of flags.
 pub(crate) fn read_flags(part: Part<'_>) -> Result<Read<Flags>, Refusal>
     ensures value { result ≡ flag_map (piece part.entry) }
-    ensures within { IfOk result (λ x. (0 < x.size) × (x.size ≤ length (piece part.entry).bytes)) }
+    ensures within { TakenFrom (piece part.entry) result }
 {
     let fields = read_map_by(part, InFlags { flags: Flags::NONE })?;
-    Ok(Read {
-        value: fields.value.flags,
-        size: fields.size,
-    })
+    Ok(fields.map(|fields| fields.flags))
 }

@@ -1,5 +1,6 @@
 ghost use Rattle.std.specs.Prelude.{◌≡◌, ℕ, ◌<◌, ◌≤◌, length, IfOk};
 ghost use Rattle.parts.specs.Parts.{piece};
+ghost use Rattle.parts.specs.Reads.{TakenFrom};
 ghost use Rattle.measurements.specs.Listed.{authority_at, authority_array};
 
 use crate::kinds::InAuthorities;
@@ -22,28 +23,21 @@ impl Elements for InAuthorities {
         if number.value > 63 {
             return Err(Refusal::OutOfLimits(part.place()));
         }
-        Ok(Read {
-            value: InAuthorities {
-                last: Some(number.value),
-                listed: self.listed.with(number.value),
-            },
-            size: number.size,
-        })
+        Ok(number.map(|number| InAuthorities {
+            last: Some(number),
+            listed: self.listed.with(number),
+        }))
     }
 }
 
 // A rising array of authorities.
 pub(crate) fn read_authorities(part: Part<'_>) -> Result<Read<Authorities>, Refusal>
     ensures value { result ≡ authority_array (piece part.entry) }
-    ensures within { IfOk result (λ x. (0 < x.size) × (x.size ≤ length (piece part.entry).bytes)) }
+    ensures within { TakenFrom (piece part.entry) result }
 {
     let start = InAuthorities {
         last: None,
         listed: Authorities::NONE,
     };
-    let array = read_array_by(part, start)?;
-    Ok(Read {
-        value: array.value.listed,
-        size: array.size,
-    })
+    Ok(read_array_by(part, start)?.map(|array| array.listed))
 }

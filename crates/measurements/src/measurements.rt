@@ -1,5 +1,6 @@
 ghost use Rattle.std.specs.Prelude.{◌≡◌, ℕ, ◌<◌, ◌≤◌, Bool, length, IfOk};
 ghost use Rattle.parts.specs.Parts.{piece};
+ghost use Rattle.parts.specs.Reads.{TakenFrom};
 ghost use Rattle.conditions.specs.Wanted.{some_wanted};
 ghost use Rattle.measurements.specs.Measurements.{measurement_field, measurement_map};
 
@@ -21,45 +22,22 @@ impl Fields for InMeasurement {
         at: usize,
         part: Part<'_>,
     ) -> Result<Read<InMeasurement>, Refusal> {
-        match key {
-            0 => {
-                let field = read_number_to(part, 65535)?;
-                Ok(Read {
-                    value: InMeasurement {
-                        wanted: Wanted {
-                            key: Some(field.value as u16),
-                            ..self.wanted
-                        },
-                        ..self
-                    },
-                    size: field.size,
-                })
-            }
-            1 => {
-                let field = read_values(part, self.allowed.minimum, self.wanted)?;
-                Ok(Read {
-                    value: InMeasurement {
-                        wanted: field.value,
-                        ..self
-                    },
-                    size: field.size,
-                })
-            }
+        let wanted = self.wanted;
+        let field = match key {
+            0 => read_number_to(part, 65535)?.map(|key| Wanted {
+                key: Some(key as u16),
+                ..wanted
+            }),
+            1 => read_values(part, self.allowed.minimum, wanted)?,
             2 if self.allowed.authorities => {
-                let field = read_authorities(part)?;
-                Ok(Read {
-                    value: InMeasurement {
-                        wanted: Wanted {
-                            authorities: field.value,
-                            ..self.wanted
-                        },
-                        ..self
-                    },
-                    size: field.size,
+                read_authorities(part)?.map(|authorities| Wanted {
+                    authorities,
+                    ..wanted
                 })
             }
-            _ => Err(Refusal::Unknown(at)),
-        }
+            _ => return Err(Refusal::Unknown(at)),
+        };
+        Ok(field.map(|wanted| InMeasurement { wanted, ..self }))
     }
 }
 
@@ -73,19 +51,15 @@ fn has_value(wanted: &Wanted) -> bool
 // A measurement map, which must have values.
 pub fn read_measurement(part: Part<'_>, allowed: Allowed) -> Result<Read<Wanted>, Refusal>
     ensures value { result ≡ measurement_map allowed (piece part.entry) }
-    ensures within { IfOk result (λ x. (0 < x.size) × (x.size ≤ length (piece part.entry).bytes)) }
+    ensures within { TakenFrom (piece part.entry) result }
 {
     let start = InMeasurement {
         allowed,
         wanted: Wanted::NONE,
     };
-    let fields = read_map_by(part, start)?;
-    let wanted = fields.value.wanted;
-    if !has_value(&wanted) {
+    let wanted = read_map_by(part, start)?.map(|fields| fields.wanted);
+    if !has_value(&wanted.value) {
         return Err(Refusal::Missing(part.place()));
     }
-    Ok(Read {
-        value: wanted,
-        size: fields.size,
-    })
+    Ok(wanted)
 }

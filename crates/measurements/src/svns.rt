@@ -1,9 +1,10 @@
 ghost use Rattle.std.specs.Prelude.{◌≡◌, ℕ, ◌<◌, ◌≤◌, Bool, length, IfOk};
 ghost use Rattle.parts.specs.Parts.{piece};
+ghost use Rattle.parts.specs.Reads.{TakenFrom};
 ghost use Rattle.measurements.specs.Svns.{svn_tag, svn_under, tagged_svn, svn_at};
 
 use crate::kinds::Svn;
-use cbor::items::take_item;
+use cbor::items::{take_as, take_item};
 use cbor::kinds::Item;
 use cbor::scalars::{read_number_to, read_tag};
 use parts::kinds::{Part, Read};
@@ -30,44 +31,29 @@ fn svn_under(tag: u64, number: u64) -> Svn
 // A tag and its number: one item, whose place is that of the tag.
 fn read_tagged_svn(part: Part<'_>, minimum: bool) -> Result<Read<Svn>, Refusal>
     ensures value { result ≡ tagged_svn minimum (piece part.entry) }
-    ensures within { IfOk result (λ x. (0 < x.size) × (x.size ≤ length (piece part.entry).bytes)) }
+    ensures within { TakenFrom (piece part.entry) result }
 {
     let at = part.place();
     let tag = read_tag(part)?;
     if !is_svn_tag(tag.value, minimum) {
         return Err(Refusal::Malformed(at));
     }
-    let Some(taken) = take_item(part.after(tag.size)) else {
-        return Err(Refusal::Malformed(at));
-    };
-    let Item::Unsigned(number) = taken.item else {
-        return Err(Refusal::Malformed(at));
-    };
-    if number > 4294967295 {
+    let number = take_as(part.after(tag.size), Item::unsigned).ok_or(Refusal::Malformed(at))?;
+    if number.value > 4294967295 {
         return Err(Refusal::OutOfLimits(at));
     }
-    Ok(Read {
-        value: svn_under(tag.value, number),
-        size: part.bytes().len() - taken.rest.bytes().len(),
-    })
+    let svn = number.map(|number| svn_under(tag.value, number));
+    Ok(svn.behind(tag.size))
 }
 
 // An svn: a number, or one behind a tag.
 pub(crate) fn read_svn(part: Part<'_>, minimum: bool) -> Result<Read<Svn>, Refusal>
     ensures value { result ≡ svn_at minimum (piece part.entry) }
-    ensures within { IfOk result (λ x. (0 < x.size) × (x.size ≤ length (piece part.entry).bytes)) }
+    ensures within { TakenFrom (piece part.entry) result }
 {
-    let Some(taken) = take_item(part) else {
-        return Err(Refusal::Malformed(part.place()));
-    };
+    let taken = take_item(part).ok_or(Refusal::Malformed(part.place()))?;
     match taken.item {
-        Item::Unsigned(_) => {
-            let number = read_number_to(part, 4294967295)?;
-            Ok(Read {
-                value: Svn::Exact(number.value),
-                size: number.size,
-            })
-        }
+        Item::Unsigned(_) => Ok(read_number_to(part, 4294967295)?.map(Svn::Exact)),
         Item::Tag(_) => read_tagged_svn(part, minimum),
         _ => Err(Refusal::Malformed(part.place())),
     }

@@ -1,5 +1,6 @@
 ghost use Rattle.std.specs.Prelude.{◌≡◌, ℕ, ◌<◌, ◌≤◌, Bool, length, IfOk};
 ghost use Rattle.parts.specs.Parts.{piece};
+ghost use Rattle.parts.specs.Reads.{TakenFrom};
 ghost use Rattle.measurements.specs.Values.{in_values, put_svn, version_field, version_map, values_field, values_map};
 ghost use Rattle.conditions.specs.Wanted.{with_values};
 
@@ -21,29 +22,18 @@ impl Fields for InVersion {
         if key != 0 {
             return Err(Refusal::Unknown(at));
         }
-        let text = read_text(part, 1)?;
-        Ok(Read {
-            value: InVersion {
-                text: Some(text.value),
-            },
-            size: text.size,
-        })
+        Ok(read_text(part, 1)?.map(|text| InVersion { text: Some(text) }))
     }
 }
 
 // A version map.
 fn read_version(part: Part<'_>) -> Result<Read<Bytes<32>>, Refusal>
     ensures value { result ≡ version_map (piece part.entry) }
-    ensures within { IfOk result (λ x. (0 < x.size) × (x.size ≤ length (piece part.entry).bytes)) }
+    ensures within { TakenFrom (piece part.entry) result }
 {
-    let fields = read_map_by(part, InVersion { text: None })?;
-    let Some(value) = fields.value.text else {
-        return Err(Refusal::Missing(part.place()));
-    };
-    Ok(Read {
-        value,
-        size: fields.size,
-    })
+    read_map_by(part, InVersion { text: None })?
+        .try_map(|fields| fields.text)
+        .ok_or(Refusal::Missing(part.place()))
 }
 
 impl InValues {
@@ -85,56 +75,21 @@ impl Fields for InValues {
 
     fn read_under(self, key: u64, at: usize, part: Part<'_>) -> Result<Read<InValues>, Refusal> {
         let values = self.wanted.values;
-        match key {
-            0 => {
-                let field = read_version(part)?;
-                Ok(Read {
-                    value: self.with_values(Values {
-                        version: Some(field.value),
-                        ..values
-                    }),
-                    size: field.size,
-                })
-            }
-            1 => {
-                let field = read_svn(part, self.minimum)?;
-                Ok(Read {
-                    value: self.with_svn(field.value),
-                    size: field.size,
-                })
-            }
-            2 => {
-                let field = read_digests(part)?;
-                Ok(Read {
-                    value: self.with_values(Values {
-                        digests: field.value,
-                        ..values
-                    }),
-                    size: field.size,
-                })
-            }
-            3 => {
-                let field = read_flags(part)?;
-                Ok(Read {
-                    value: self.with_values(Values {
-                        flags: field.value,
-                        ..values
-                    }),
-                    size: field.size,
-                })
-            }
-            4 => {
-                let field = read_tagged_bytes(part, 560, 1)?;
-                Ok(Read {
-                    value: self.with_values(Values {
-                        raw: Some(field.value),
-                        ..values
-                    }),
-                    size: field.size,
-                })
-            }
-            _ => Err(Refusal::Unknown(at)),
-        }
+        let field = match key {
+            0 => read_version(part)?.map(|version| Values {
+                version: Some(version),
+                ..values
+            }),
+            1 => return Ok(read_svn(part, self.minimum)?.map(|svn| self.with_svn(svn))),
+            2 => read_digests(part)?.map(|digests| Values { digests, ..values }),
+            3 => read_flags(part)?.map(|flags| Values { flags, ..values }),
+            4 => read_tagged_bytes(part, 560, 1)?.map(|raw| Values {
+                raw: Some(raw),
+                ..values
+            }),
+            _ => return Err(Refusal::Unknown(at)),
+        };
+        Ok(field.map(|values| self.with_values(values)))
     }
 }
 
@@ -145,11 +100,8 @@ pub(crate) fn read_values(
     wanted: Wanted,
 ) -> Result<Read<Wanted>, Refusal>
     ensures value { result ≡ values_map minimum wanted (piece part.entry) }
-    ensures within { IfOk result (λ x. (0 < x.size) × (x.size ≤ length (piece part.entry).bytes)) }
+    ensures within { TakenFrom (piece part.entry) result }
 {
     let fields = read_map_by(part, InValues { minimum, wanted })?;
-    Ok(Read {
-        value: fields.value.wanted,
-        size: fields.size,
-    })
+    Ok(fields.map(|fields| fields.wanted))
 }

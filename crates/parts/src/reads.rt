@@ -1,4 +1,5 @@
-ghost use Rattle.std.specs.Prelude.{◌≡◌, ℕ, ◌+◌, ◌^◌, ◌<◌};
+ghost use Rattle.std.specs.Prelude.{◌≡◌, ℕ, ◌+◌, ◌^◌, ◌<◌, Option as Choice};
+ghost use Rattle.parts.specs.Reads.{of_size};
 
 use crate::kinds::Read;
 
@@ -13,6 +14,18 @@ impl<T> Read<T> {
             value: f(self.value),
             size: self.size,
         }
+    }
+
+    // What was read, put to use where it can be.
+    pub fn try_map<U, F: FnOnce(T) -> Option<U>>(self, f: F) -> Option<Read<U>>
+        requires { F.pre f self.value }
+        ensures { (o : Choice U) × F.post f self.value o × (result ≡ of_size self.size o) }
+    {
+        let read = self.map(f);
+        Some(Read {
+            value: read.value?,
+            size: read.size,
+        })
     }
 
     // The same, together with so many bytes that stand before it.

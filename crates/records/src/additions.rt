@@ -2,24 +2,18 @@ ghost use Rattle.std.specs.Prelude.{◌≡◌};
 ghost use Rattle.records.specs.Additions.{claim_of, additions_of};
 
 use crate::kinds::Few;
-use claims::kinds::{Claim, Values};
-use conditions::kinds::Condition;
+use claims::kinds::Claim;
+use conditions::kinds::{Condition, Wanted};
 
 // What a measurement map of an addition says, as the claim that is added.
 fn claim_of(condition: &Condition) -> Claim
     ensures { result ≡ claim_of condition.now }
 {
-    match condition.wanted {
-        Some(wanted) => Claim {
-            environment: condition.environment,
-            key: wanted.key,
-            values: wanted.values,
-        },
-        None => Claim {
-            environment: condition.environment,
-            key: None,
-            values: Values::NONE,
-        },
+    let wanted = condition.wanted.unwrap_or(Wanted::NONE);
+    Claim {
+        environment: condition.environment,
+        key: wanted.key,
+        values: wanted.values,
     }
 }
 

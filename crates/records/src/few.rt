@@ -1,4 +1,4 @@
-ghost use Rattle.std.specs.Prelude.{◌≡◌, Bool, List};
+ghost use Rattle.std.specs.Prelude.{◌≡◌};
 ghost use Rattle.records.specs.Few.{few_of, room, joined, members};
 
 use crate::kinds::Few;
@@ -25,14 +25,13 @@ impl<T: Copy> Few<T> {
     pub fn with(self, member: T) -> Few<T>
         ensures { result ≡ joined self member }
     {
-        let count = self.count;
-        if count >= 4 {
+        if !self.has_room() {
             return self;
         }
         let mut places = self.places;
-        places[count] = member;
+        places[self.count] = member;
         Few {
-            count: count + 1,
+            count: self.count + 1,
             places,
         }
     }
@@ -41,12 +40,6 @@ impl<T: Copy> Few<T> {
     pub fn as_slice(&self) -> &[T]
         ensures { result.now ≡ members self.now }
     {
-        let all = &self.places[..];
-        let count = self.count;
-        if count < all.len() {
-            &all[0..count]
-        } else {
-            all
-        }
+        &self.places[..self.count.min(4)]
     }
 }

@@ -1,6 +1,7 @@
-ghost use Rattle.std.specs.Prelude.{◌≡◌, ℕ, ◌<◌, ◌≤◌, Bool, List, length, IfOk};
+ghost use Rattle.std.specs.Prelude.{◌≡◌};
 ghost use Rattle.records.specs.Laws.{RuleAsWritten};
 ghost use Rattle.parts.specs.Parts.{piece};
+ghost use Rattle.parts.specs.Reads.{TakenFrom};
 ghost use Rattle.records.specs.Records.{record_head, condition_at, map_at_most, maps_under, record_at, records_of, judged};
 
 use crate::kinds::{Few, InRecord, InRecords};
@@ -18,14 +19,11 @@ use refusals::Refusal;
 // The beginning of a record: the head of an array of two, and an environment map.
 pub fn read_record_head(part: Part<'_>) -> Result<Read<Environment>, Refusal>
     ensures value { result ≡ record_head (piece part.entry) }
-    ensures within { IfOk result (λ x. (0 < x.size) × (x.size ≤ length (piece part.entry).bytes)) }
+    ensures within { TakenFrom (piece part.entry) result }
 {
     let head = read_array_of(part, 2)?;
     let environment = read_environment(part.after(head.size))?;
-    Ok(Read {
-        value: environment.value,
-        size: head.size + environment.size,
-    })
+    Ok(environment.behind(head.size))
 }
 
 // A measurement map, as a condition on the environment of its record.
@@ -35,16 +33,13 @@ pub fn read_condition(
     environment: Environment,
 ) -> Result<Read<Condition>, Refusal>
     ensures value { result ≡ condition_at allowed environment (piece part.entry) }
-    ensures within { IfOk result (λ x. (0 < x.size) × (x.size ≤ length (piece part.entry).bytes)) }
+    ensures within { TakenFrom (piece part.entry) result }
 {
     let map = read_measurement(part, allowed)?;
-    Ok(Read {
-        value: Condition {
-            environment,
-            wanted: Some(map.value),
-        },
-        size: map.size,
-    })
+    Ok(map.map(|wanted| Condition {
+        environment,
+        wanted: Some(wanted),
+    }))
 }
 
 impl Elements for InRecord {
@@ -56,36 +51,20 @@ impl Elements for InRecord {
             return Err(Refusal::OutOfLimits(part.place()));
         }
         let condition = read_condition(part, self.allowed, self.environment)?;
-        Ok(Read {
-            value: InRecord {
-                found: self.found.with(condition.value),
-                ..self
-            },
-            size: condition.size,
-        })
+        Ok(condition.map(|condition| InRecord {
+            found: self.found.with(condition),
+            ..self
+        }))
     }
 }
 
 // The measurement maps of a record, which join those of the records before it.
-pub fn read_maps(
-    part: Part<'_>,
-    allowed: Allowed,
-    environment: Environment,
-    found: Few<Condition>,
-) -> Result<Read<Few<Condition>>, Refusal>
-    ensures value { result ≡ maps_under allowed found environment (piece part.entry) }
-    ensures within { IfOk result (λ x. (0 < x.size) × (x.size ≤ length (piece part.entry).bytes)) }
+pub fn read_maps(part: Part<'_>, start: InRecord) -> Result<Read<Few<Condition>>, Refusal>
+    ensures value { result ≡ maps_under start.allowed start.found start.environment (piece part.entry) }
+    ensures within { TakenFrom (piece part.entry) result }
 {
-    let start = InRecord {
-        allowed,
-        environment,
-        found,
-    };
     let maps = read_array_by(part, start)?;
-    Ok(Read {
-        value: maps.value.found,
-        size: maps.size,
-    })
+    Ok(maps.map(|maps| maps.found))
 }
 
 impl Elements for InRecords {
@@ -93,34 +72,32 @@ impl Elements for InRecords {
 
     fn read_element(self, part: Part<'_>) -> Result<Read<InRecords>, Refusal> {
         let head = read_record_head(part)?;
-        let maps = read_maps(part.after(head.size), self.allowed, head.value, self.found)?;
-        Ok(Read {
-            value: InRecords {
-                found: maps.value,
-                ..self
-            },
-            size: head.size + maps.size,
-        })
+        let start = InRecord {
+            allowed: self.allowed,
+            environment: head.value,
+            found: self.found,
+        };
+        let maps = read_maps(part.after(head.size), start)?;
+        let records = maps.map(|found| InRecords { found, ..self });
+        Ok(records.behind(head.size))
     }
 }
 
 // An array of records, each of whose measurement maps is a condition: at most four in all.
 pub fn read_records(part: Part<'_>, allowed: Allowed) -> Result<Read<Few<Condition>>, Refusal>
     ensures value { result ≡ records_of allowed (piece part.entry) }
-    ensures within { IfOk result (λ x. (0 < x.size) × (x.size ≤ length (piece part.entry).bytes)) }
+    ensures within { TakenFrom (piece part.entry) result }
 {
     let start = InRecords {
         allowed,
         found: Few::new(Condition::NONE),
     };
     let records = read_array_by(part, start)?;
-    Ok(Read {
-        value: records.value.found,
-        size: records.size,
-    })
+    Ok(records.map(|records| records.found))
 }
 
 // The conditions of a booking rule: a message that is an array of records, with nothing left over.
+#[tactic(auto, using(crate::proofs::Rules::rule_as_written))]
 pub fn read_rule(message: &[u8]) -> Result<Few<Condition>, Refusal>
     ensures value { result ≡ judged message.now }
     ensures law { RuleAsWritten message.now }

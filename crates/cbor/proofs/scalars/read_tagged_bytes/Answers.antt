@@ -1,21 +1,11 @@
-use Rattle.std.proofs.Common.{rules, eq-eqb}
-use Rattle.cbor.proofs.Tags.{reads_tagged_bytes}
+use Rattle.std.proofs.Common.{rules}
+use Rattle.parts.specs.Parts.{piece}
+use Rattle.cbor.specs.Items.{is_bytes}
+use Rattle.cbor.proofs.Chosen.{item_taken, tagged_whole}
 use Rattle.cbor.proofs.scalars.read_tagged_bytes.Goals as goal
 
-pub returns-in_err-head : goal.returns-in_err-head
-returns-in_err-head g c = record { value = search rules; within = search rules; grammar = reads_tagged_bytes _ _ _ }
-
-pub returns-then-head-tag : goal.returns-then-head-tag
-returns-then-head-tag g c = record { value = search rules; within = search rules; grammar = reads_tagged_bytes _ _ _ }
-
-pub returns-in_default : goal.returns-in_default
-returns-in_default g c = record { value = search (rules, eq-eqb); within = search rules; grammar = reads_tagged_bytes _ _ _ }
-
-pub returns-in_default-item : goal.returns-in_default-item
-returns-in_default-item g c = record { value = search rules; within = search rules; grammar = reads_tagged_bytes _ _ _ }
-
-pub returns-in_default-new : goal.returns-in_default-new
-returns-in_default-new g c = record { value = search (rules, eq-eqb); within = search rules; grammar = reads_tagged_bytes _ _ _ }
-
-pub returns : goal.returns
-returns g c = record { value = search (rules, eq-eqb); within = search rules; grammar = reads_tagged_bytes _ _ _ }
+pub returns-clause-value : goal.returns-clause-value
+returns-clause-value g c =
+    let s = item_taken piece is_bytes _ (piece c.after.result) c.in_ok-string.string c.take_as.result (search rules) c.take_as.ensures.value (λ i o e. e.1) in
+    tagged_whole c.args.tag g.row.N c.args.least (piece c.args.part) c.in_ok-head.head c.in_ok-string.string c.in_ok-keep.field-0 c.behind.result c.in_ok-head.ensures.value c.if-head-tag.false
+    c.in_ok-head.ensures.within.1 (rw c.after.ensures.value at s) (rw c.place-at.ensures at c.in_ok-keep.ensures) c.behind.ensures.value c.behind.ensures.size
