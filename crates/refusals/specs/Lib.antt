@@ -1,2 +1,3 @@
 pub mod Figures
 pub mod Reading
+pub mod Texts

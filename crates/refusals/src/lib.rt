@@ -1,9 +1,13 @@
 #![tactic(auto)]
 
-ghost use Rattle.std.specs.Prelude.{◌≡◌};
+ghost use Rattle.std.specs.Prelude.{◌≡◌, Some};
 ghost use Rattle.refusals.specs.Figures.{number, layer, place};
+ghost use Rattle.refusals.specs.Texts.{layer_text, refusal_text};
 
 pub mod reading;
+
+use std::error::Error;
+use std::fmt;
 
 // Why a call is turned down. A refusal that speaks of a place in a message or of a number holds it.
 #[derive(Clone, Copy, PartialEq, Eq, Debug)]
@@ -100,3 +104,30 @@ impl Refusal {
         }
     }
 }
+
+impl fmt::Display for Layer {
+    ghost output = { λ layer. Some (layer_text layer) };
+
+    fn fmt<W: fmt::Write>(&self, f: &mut fmt::Formatter<W>) -> fmt::Result {
+        f.write_str(match self {
+            Layer::Caller => "caller",
+            Layer::Item => "item",
+            Layer::Record => "record",
+            Layer::Table => "table",
+        })
+    }
+}
+
+// What a refusal says: its number, its layer and its place.
+impl fmt::Display for Refusal {
+    ghost output = { λ refusal. Some (refusal_text refusal) };
+
+    fn fmt<W: fmt::Write>(&self, f: &mut fmt::Formatter<W>) -> fmt::Result {
+        let number = self.number();
+        let layer = self.layer();
+        let place = self.place();
+        write!(f, "refused: {number} {layer} at {place}")
+    }
+}
+
+impl Error for Refusal {}

@@ -1,38 +1,24 @@
-use Rattle.std.proofs.Common.{◌≡◌, ℕ, ◌+◌, ◌<◌, ◌≤◌, cond, eqb, List, [], ◌∷◌, ◌++◌, length, get_or, take, drop, sym, refl, ap, ◌∙◌, append_assoc, append-nil, arith}
-use Rattle.std.proofs.lemmas.List.{at_drop_more, at_drop_all, take_more, take_all}
+use Rattle.std.proofs.Common.{◌≡◌, ◌+◌, add-one, ◌≢◌, ℕ, zero, suc, ◌<◌, eqb, List, [], ◌∷◌, length, take, drop, sym, refl, ap, ◌∙◌, arith}
+use Rattle.std.specs.List.{AllWithin, HoldsAt}
 use Rattle.std.proofs.lemmas.Bool.{eq-eqb, ne_eqb, eqb-true, eqb-false, cond_both}
 use Rattle.script.specs.Words.{onto, words_of, spaced, Solid}
 
--- bytes before the first word
-abbrev pub behind : List ℕ → List (List ℕ) → List (List ℕ)
-behind p [] = p ∷ []
-behind p (w ∷ ws) = (p ++ w) ∷ ws
+-- a line without a space is one word
+pub one_word : (l : List ℕ) → AllWithin (λ c. c ≢ 32) l 0 (length l) → words_of l ≡ l ∷ []
+one_word [] n = refl
+one_word (c ∷ cs) n = rw (ne_eqb c 32 (n 0 0 (omega arith) (omega arith)), one_word cs (λ k d _ h. n (suc k) d (omega arith) (omega arith)))
 
-behind_onto : (p : List ℕ) (c : ℕ) (ws : List (List ℕ)) → behind p (onto c ws) ≡ behind (p ++ c ∷ []) ws
-behind_onto p c [] = refl
-behind_onto p c (w ∷ ws) = ap (λ (v : List ℕ). v ∷ ws) (sym (append_assoc p (c ∷ []) w))
+space_at : (l : List ℕ) (i : ℕ) → i < length l → HoldsAt (λ c. c ≡ 32) l i → AllWithin (λ c. c ≢ 32) l 0 i
+    → words_of l ≡ take i l ∷ words_of (drop (suc i) l)
+space_at [] i h s n = absurd (omega arith)
+space_at (c ∷ cs) zero h s n = rw (eq-eqb c 32 (s 0))
+space_at (c ∷ cs) (suc i) h s n =
+    rw (ne_eqb c 32 (n 0 0 (omega arith) (omega arith)), space_at cs i (omega arith) s (λ k d _ l. n (suc k) d (omega arith) (omega arith)))
 
--- a byte that is no space belongs to the word
-pub word_more : (l : List ℕ) (i : ℕ) → i < length l → (get_or l i 0 ≡ 32 → ⊥)
-    → behind (take i l) (words_of (drop i l)) ≡ behind (take (i + 1) l) (words_of (drop (i + 1) l))
-word_more l i h n =
-    let e : words_of (drop i l) ≡ cond (eqb (get_or l i 0) 32) ([] ∷ words_of (drop (i + 1) l)) (onto (get_or l i 0) (words_of (drop (i + 1) l)))
-    = at_drop_more words_of l i 0 h in
-    rw (e, ne_eqb (get_or l i 0) 32 n, behind_onto, ← take_more l i 0 h)
-
--- a space ends it
-pub word_ends : (l : List ℕ) (i : ℕ) → i < length l → get_or l i 0 ≡ 32
-    → behind (take i l) (words_of (drop i l)) ≡ take i l ∷ words_of (drop (i + 1) l)
-word_ends l i h s =
-    let e : words_of (drop i l) ≡ cond (eqb (get_or l i 0) 32) ([] ∷ words_of (drop (i + 1) l)) (onto (get_or l i 0) (words_of (drop (i + 1) l)))
-    = at_drop_more words_of l i 0 h in
-    rw (e, eq-eqb (get_or l i 0) 32 s, append-nil)
-
--- the line ends it
-pub line_ends : (l : List ℕ) (i : ℕ) → length l ≤ i → behind (take i l) (words_of (drop i l)) ≡ l ∷ []
-line_ends l i h =
-    let e : words_of (drop i l) ≡ [] ∷ [] = at_drop_all words_of l i h in
-    rw (e, take_all i l h, append-nil)
+-- the first space ends the first word
+pub word_ends : (l : List ℕ) (i : ℕ) → (i < length l) × HoldsAt (λ c. c ≡ 32) l i × AllWithin (λ c. c ≢ 32) l 0 i
+    → words_of l ≡ take i l ∷ words_of (drop (i + 1) l)
+word_ends l i at = rw add-one (space_at l i at.0 at.1 at.2)
 
 spaced_onto : (c : ℕ) (ws : List (List ℕ)) → spaced (onto c ws) ≡ c ∷ spaced ws
 spaced_onto c [] = refl
@@ -50,14 +36,6 @@ onto_some c (w ∷ ws) = omega arith
 pub words_some : (l : List ℕ) → 0 < length (words_of l)
 words_some [] = omega arith
 words_some (c ∷ cs) = cond_both (eqb c 32) _ _ (λ ws. 0 < length ws) (λ _. omega arith) (λ _. onto_some c (words_of cs))
-
-behind_none : (ws : List (List ℕ)) → 0 < length ws → ws ≡ behind [] ws
-behind_none [] h = grind arith
-behind_none (w ∷ ws) h = refl
-
--- at first no byte is taken
-pub word_begins : (l : List ℕ) → words_of l ≡ behind [] (words_of l)
-word_begins l = behind_none (words_of l) (words_some l)
 
 -- the words with spaces between them are the line
 pub spaced_words : (l : List ℕ) → spaced (words_of l) ≡ l

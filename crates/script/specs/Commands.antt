@@ -31,10 +31,14 @@ hex_from ws = then (word_from ws) (λ p. then (ok_or (hex_bytes p.0) BadHex) (λ
 abbrev pub number_from : List (List ℕ) → Heard (ℕ × List (List ℕ))
 number_from ws = then (word_from ws) (λ p. then (ok_or (number_of p.0) BadNumber) (λ n. Ok (n, p.1)))
 
+-- no word is left
+abbrev pub end_from : List (List ℕ) → Heard (Unit {0})
+end_from [] = Ok tt
+end_from (w ∷ ws) = Err ExtraWord
+
 -- the request, where no word is left
 abbrev pub ended : List (List ℕ) → Request → Heard Request
-ended [] asked = Ok asked
-ended (w ∷ ws) asked = Err ExtraWord
+ended ws asked = then (end_from ws) (λ _. Ok asked)
 
 -- CLASS ALGORITHM MESSAGE
 abbrev pub read_spdm_from : List (List ℕ) → Heard Request

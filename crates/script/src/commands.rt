@@ -1,58 +1,24 @@
 ghost use Rattle.std.specs.Prelude.{◌≡◌, Some, Ok};
 ghost use Rattle.std.specs.Option.{option_map};
-ghost use Rattle.script.specs.Commands.{Request, word_from, hex_from, number_from, read_spdm_from, read_dice_from, read_from, command_from, blank, remark, skipped, command_of, line_of, Sayable};
+ghost use Rattle.script.specs.Commands.{Request, read_spdm_from, read_dice_from, read_from, command_from, blank, remark, skipped, command_of, line_of, Sayable};
 ghost use Rattle.script.specs.Complaints.{Tells};
-ghost use Rattle.script.specs.Rests.{rest_words, split_parts, bytes_parts, number_parts};
 ghost use Rattle.script.specs.Spoken.{spoken};
 ghost use Rattle.script.specs.Words.{words_of};
 
 use crate::complaints::Complaint;
-use crate::hex::read_hex;
-use crate::kinds::{Command, Split};
-use crate::numbers::read_number;
-use crate::words::{is_word, split_word};
+use crate::kinds::Command;
+use crate::reader::Words;
+use crate::words::is_word;
 use std::alloc::Global;
 
-// The next word of what is left of a line.
-fn next_word(rest: Option<&[u8]>) -> Result<Split<'_>, Complaint>
-    ensures { Tells split_parts result (word_from (rest_words rest.entry)) }
-{
-    match rest {
-        Some(line) => Ok(split_word(line)),
-        None => Err(Complaint::MissingWord),
-    }
-}
-
-// The bytes of the next word, and what follows it.
-fn take_hex(heap: Global, rest: Option<&[u8]>) -> Result<(Vec<u8>, Option<&[u8]>), Complaint>
-    ensures { Tells bytes_parts result (hex_from (rest_words rest.entry)) }
-{
-    let split = next_word(rest)?;
-    let bytes = read_hex(heap, split.word)?;
-    Ok((bytes, split.rest))
-}
-
-// The number of the next word, and what follows it.
-fn take_number(rest: Option<&[u8]>) -> Result<(u64, Option<&[u8]>), Complaint>
-    ensures { Tells number_parts result (number_from (rest_words rest.entry)) }
-{
-    let split = next_word(rest)?;
-    match read_number(split.word) {
-        Some(number) => Ok((number, split.rest)),
-        None => Err(Complaint::BadNumber),
-    }
-}
-
 // The rest of a `read spdm` command: CLASS ALGORITHM MESSAGE.
-fn read_spdm(heap: Global, rest: Option<&[u8]>) -> Result<Command, Complaint>
-    ensures { Tells spoken result (read_spdm_from (rest_words rest.entry)) }
+fn read_spdm(heap: Global, words: &mut Words) -> Result<Command, Complaint>
+    ensures { Tells spoken result (read_spdm_from words.old) }
 {
-    let (class, rest) = take_hex(heap, rest)?;
-    let (algorithm, rest) = take_number(rest)?;
-    let (message, rest) = take_hex(heap, rest)?;
-    if rest.is_some() {
-        return Err(Complaint::ExtraWord);
-    }
+    let class = words.hex(heap)?;
+    let algorithm = words.number()?;
+    let message = words.hex(heap)?;
+    words.end()?;
     Ok(Command::ReadSpdm {
         class,
         algorithm,
@@ -61,25 +27,23 @@ fn read_spdm(heap: Global, rest: Option<&[u8]>) -> Result<Command, Complaint>
 }
 
 // The rest of a `read dice` command: MESSAGE.
-fn read_dice(heap: Global, rest: Option<&[u8]>) -> Result<Command, Complaint>
-    ensures { Tells spoken result (read_dice_from (rest_words rest.entry)) }
+fn read_dice(heap: Global, words: &mut Words) -> Result<Command, Complaint>
+    ensures { Tells spoken result (read_dice_from words.old) }
 {
-    let (message, rest) = take_hex(heap, rest)?;
-    if rest.is_some() {
-        return Err(Complaint::ExtraWord);
-    }
+    let message = words.hex(heap)?;
+    words.end()?;
     Ok(Command::ReadDice { message })
 }
 
 // The rest of a `read` command, after the word that names the format.
-fn read_format(heap: Global, noun: &[u8], rest: Option<&[u8]>) -> Result<Command, Complaint>
-    ensures { Tells spoken result (read_from noun.now (rest_words rest.entry)) }
+fn read_format(heap: Global, noun: &[u8], words: &mut Words) -> Result<Command, Complaint>
+    ensures { Tells spoken result (read_from noun.now words.old) }
 {
     if is_word(noun, b"spdm") {
-        return read_spdm(heap, rest);
+        return read_spdm(heap, words);
     }
     if is_word(noun, b"dice") {
-        return read_dice(heap, rest);
+        return read_dice(heap, words);
     }
     Err(Complaint::UnknownCommand)
 }
@@ -88,13 +52,11 @@ fn read_format(heap: Global, noun: &[u8], rest: Option<&[u8]>) -> Result<Command
 fn read_command(heap: Global, line: &[u8]) -> Result<Command, Complaint>
     ensures { Tells spoken result (command_from (words_of line.now)) }
 {
-    let verb = split_word(line);
-    let Some(rest) = verb.rest else {
-        return Err(Complaint::UnknownCommand);
-    };
-    let noun = split_word(rest);
-    if is_word(verb.word, b"read") {
-        return read_format(heap, noun.word, noun.rest);
+    let mut words = Words::new(line);
+    let verb = words.next_word().ok_or(Complaint::UnknownCommand)?;
+    let noun = words.next_word().ok_or(Complaint::UnknownCommand)?;
+    if is_word(verb, b"read") {
+        return read_format(heap, noun, &mut words);
     }
     Err(Complaint::UnknownCommand)
 }
@@ -103,22 +65,14 @@ fn read_command(heap: Global, line: &[u8]) -> Result<Command, Complaint>
 fn is_blank(line: &[u8]) -> bool
     ensures { result ≡ blank line.now }
 {
-    for c in line {
-        if *c != b' ' {
-            return false;
-        }
-    }
-    true
+    line.iter().all(|c| *c == b' ')
 }
 
 // Whether a line begins with `#`.
 fn is_remark(line: &[u8]) -> bool
     ensures { result ≡ remark line.now }
 {
-    match line {
-        [b'#', ..] => true,
-        _ => false,
-    }
+    line.first() == Some(&b'#')
 }
 
 // Whether a line says nothing: it begins with `#`, or is blank.
@@ -130,6 +84,7 @@ fn is_skipped(line: &[u8]) -> bool
 
 // The command of a line, or none where the line says nothing. Words stand one space apart. The complaint is the first that is found:
 // no command has the first two words, then each word from the left (missing, then unreadable), then a word too many.
+#[tactic(auto, using(crate::proofs::Lines::line_back))]
 pub fn parse(heap: Global, line: &[u8]) -> Result<Option<Command>, Complaint>
     ensures value { Tells (option_map spoken) result (command_of line.now) }
     ensures law { (asked : Request) → Sayable asked → command_of (line_of asked) ≡ Ok (Some asked) }
@@ -145,6 +100,7 @@ pub fn parse(heap: Global, line: &[u8]) -> Result<Option<Command>, Complaint>
 mod tests {
     use super::*;
     use crate::hex::push_hex;
+    use crate::numbers::read_number;
     use std::test::Fail;
 
     fn complaint(heap: Global, line: &[u8]) -> Option<Complaint> {

@@ -1,8 +1,10 @@
-ghost use Rattle.std.specs.Prelude.{◌≡◌};
+ghost use Rattle.std.specs.Prelude.{◌≡◌, Some};
 ghost use Rattle.script.specs.Complaints.{complaint_text};
 ghost use Rattle.script.specs.declared.complaints.Complaint.TheVariants.{OutOfMemory};
 
 use std::alloc::{AllocError, AllocFailed};
+use std::error::Error;
+use std::fmt;
 
 // Why a line is not taken.
 #[derive(Clone, Copy, PartialEq, Eq, Debug)]
@@ -52,3 +54,13 @@ impl Complaint {
         }
     }
 }
+
+impl fmt::Display for Complaint {
+    ghost output = { λ complaint. Some (complaint_text complaint) };
+
+    fn fmt<W: fmt::Write>(&self, f: &mut fmt::Formatter<W>) -> fmt::Result {
+        f.write_str(self.text())
+    }
+}
+
+impl Error for Complaint {}

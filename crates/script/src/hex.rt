@@ -1,14 +1,15 @@
 ghost use Rattle.std.specs.Prelude.{◌≡◌, ℕ, ◌<◌, List, IfSome, Some, vec_items, string_bytes};
-ghost use Rattle.std.specs.List.{flat_map, AllByRecursion};
+ghost use Rattle.std.specs.List.{AllByRecursion};
 ghost use Rattle.std.specs.Option.{ok_or};
 ghost use Rattle.script.specs.Complaints.{Tells};
-ghost use Rattle.script.specs.Hex.{digit_of, byte_of, pair_bytes, hex_bytes, hex_digit, hex_pair, hex_text};
+ghost use Rattle.script.specs.Hex.{digit_of, byte_of, pair_bytes, hex_bytes, hex_text};
 ghost use Rattle.script.specs.Texts.{Appends};
 ghost use Rattle.script.specs.declared.complaints.Complaint.TheVariants.{BadHex};
 
 use crate::complaints::Complaint;
 use crate::words::is_word;
 use std::alloc::{AllocError, Global};
+use std::fmt;
 
 // The value of a hex digit, in either case.
 fn digit(c: u8) -> Option<u8>
@@ -36,20 +37,20 @@ fn pair(high: u8, low: u8) -> Option<u8>
 fn read_pairs(heap: Global, word: &[u8]) -> Result<Vec<u8>, Complaint>
     ensures { Tells vec_items result (ok_or (pair_bytes word.now) BadHex) }
 {
-    if word.len() % 2 == 1 {
-        return Err(Complaint::BadHex);
-    }
     let mut bytes = Vec::new(heap);
-    for i in 0..word.len() / 2 {
-        let Some(byte) = pair(word[2 * i], word[2 * i + 1]) else {
+    // A last digit alone is no pair.
+    for digits in word.chunks(2) {
+        let [high, low] = digits else {
             return Err(Complaint::BadHex);
         };
+        let byte = pair(*high, *low).ok_or(Complaint::BadHex)?;
         bytes.push(byte)?;
     }
     Ok(bytes)
 }
 
 // The bytes that a word stands for: at least one pair of digits, or `-` for no bytes.
+#[tactic(auto, using(crate::proofs::Digits::hex_back))]
 pub fn read_hex(heap: Global, word: &[u8]) -> Result<Vec<u8>, Complaint>
     ensures value { Tells vec_items result (ok_or (hex_bytes word.now) BadHex) }
     ensures law { (xs : List ℕ) → AllByRecursion (λ x. x < 256) xs → hex_bytes (hex_text xs) ≡ Some xs }
@@ -63,45 +64,27 @@ pub fn read_hex(heap: Global, word: &[u8]) -> Result<Vec<u8>, Complaint>
     read_pairs(heap, word)
 }
 
-// The digit of a value, in upper case.
-fn hex_digit(value: u8) -> char
-    requires { value < 16 }
-    ensures value { result ≡ hex_digit value }
-    ensures ascii { result < 128 }
-{
-    if value < 10 {
-        char::from(b'0' + value)
-    } else {
-        char::from(b'A' + (value - 10))
-    }
-}
+// Bytes that print as the word for them: two digits a byte, in upper case, or `-` for no bytes.
+#[derive(Clone, Copy)]
+pub struct Hex<'a>(pub &'a [u8]);
 
-// Appends the two digits of a byte.
-fn push_pair(out: &mut String, byte: u8) -> Result<(), AllocError>
-    ensures { Appends result (string_bytes out.old) (string_bytes out.new) (hex_pair byte) }
-{
-    out.push(hex_digit(byte / 16))?;
-    out.push(hex_digit(byte % 16))?;
-    Ok(())
-}
+impl fmt::Display for Hex<'_> {
+    ghost output = { λ hex. Some (hex_text hex.0.now) };
 
-// Appends the two digits of each byte.
-fn push_pairs(out: &mut String, bytes: &[u8]) -> Result<(), AllocError>
-    ensures { Appends result (string_bytes out.old) (string_bytes out.new) (flat_map hex_pair bytes.now) }
-{
-    for byte in bytes {
-        push_pair(out, *byte)?;
+    fn fmt<W: fmt::Write>(&self, f: &mut fmt::Formatter<W>) -> fmt::Result {
+        if self.0.is_empty() {
+            return f.write_str("-");
+        }
+        for &byte in self.0 {
+            write!(f, "{byte:02X}")?;
+        }
+        Ok(())
     }
-    Ok(())
 }
 
 // Appends the word for bytes: two digits a byte, or `-` for no bytes.
 pub fn push_hex(out: &mut String, bytes: &[u8]) -> Result<(), AllocError>
     ensures { Appends result (string_bytes out.old) (string_bytes out.new) (hex_text bytes.now) }
 {
-    if bytes.is_empty() {
-        out.push_str("-")?;
-        return Ok(());
-    }
-    push_pairs(out, bytes)
+    write!(out, "{}", Hex(bytes))
 }

@@ -5,4 +5,5 @@ pub mod complaints;
 pub mod hex;
 pub mod kinds;
 pub mod numbers;
+mod reader;
 pub mod words;

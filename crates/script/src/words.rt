@@ -5,7 +5,7 @@ ghost use Rattle.script.specs.Words.{words_of, spaced, Solid};
 
 use crate::kinds::Split;
 
-// Whether both are the same bytes.
+// Whether both are the same bytes. `==` would want two arrays or two slices; here `b".."` becomes a slice.
 pub(crate) fn is_word(word: &[u8], name: &[u8]) -> bool
     ensures { result ≡ bytes_eq word.now name.now }
 {
@@ -18,17 +18,14 @@ pub fn split_word(line: &[u8]) -> Split<'_>
     ensures whole { spaced (words_of line.now) ≡ line.now }
     ensures solid { Solid (words_of line.now) }
 {
-    for i in 0..line.len() {
-        if line[i] == b' ' {
-            let next = i + 1;
-            return Split {
-                word: &line[0..i],
-                rest: Some(&line[next..]),
-            };
-        }
-    }
-    Split {
-        word: line,
-        rest: None,
+    match line.iter().position(|c| *c == b' ') {
+        Some(end) => Split {
+            word: &line[..end],
+            rest: Some(&line[end + 1..]),
+        },
+        None => Split {
+            word: line,
+            rest: None,
+        },
     }
 }

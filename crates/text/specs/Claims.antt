@@ -1,4 +1,5 @@
 use Rattle.std.specs.Prelude.{ℕ, ◌+◌, Bool, true, false, cond, ◌||◌, List, [], ◌∷◌, ◌++◌, is_some, Some, None, codes, decimal, Option}
+use Rattle.std.specs.Option.{option_map}
 use Rattle.claims.specs.Bytes.{content}
 use Rattle.claims.specs.declared.kinds.Bytes.{Bytes}
 use Rattle.claims.specs.declared.kinds.Digests.{Digests}
@@ -6,6 +7,11 @@ use Rattle.claims.specs.declared.kinds.Environment.{Environment}
 use Rattle.claims.specs.declared.kinds.Values.{Values}
 use Rattle.claims.specs.declared.kinds.Claim.{Claim}
 use Rattle.script.specs.Hex.{hex_text}
+
+-- a value under its label, where it is there
+abbrev pub field_text : {T : Type 0} → (T → Option (List ℕ)) → List ℕ → Option T → Option (List ℕ)
+field_text text label None = Some []
+field_text text label (Some x) = option_map (λ t. label ++ t) (text x)
 
 -- a byte string under its label
 abbrev pub bytes_field : {N : ℕ} → List ℕ → Option (Bytes N) → List ℕ

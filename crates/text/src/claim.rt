@@ -1,131 +1,130 @@
-ghost use Rattle.std.specs.Prelude.{◌≡◌, false, ◌||◌, is_some, IfOk, string_bytes};
-ghost use Rattle.text.specs.Claims.{bytes_field, number_field, environment_text, digests_text, flag_lead, flag_text, flags_from, values_text, claim_text};
+ghost use Rattle.std.specs.Prelude.{◌≡◌, false, Some, string_bytes};
+ghost use Rattle.std.specs.Option.{option_map};
+ghost use Rattle.claims.specs.Bytes.{content};
+ghost use Rattle.text.specs.Claims.{field_text, environment_text, digests_text, flags_from, values_text, claim_text};
 ghost use Rattle.script.specs.Texts.{Appends};
 
 use claims::kinds::{Bytes, Claim, Digests, Environment, Values};
-use script::hex::push_hex;
+use script::hex::Hex;
 use std::alloc::AllocError;
+use std::fmt;
 
-// Appends a byte string under its label, where it is there.
-fn push_bytes<const N: usize>(
-    out: &mut String,
-    label: &str,
-    field: Option<Bytes<N>>,
-) -> Result<(), AllocError>
-    ensures { Appends result (string_bytes out.old) (string_bytes out.new) (bytes_field label.now field.entry) }
-{
-    let Some(bytes) = field else {
-        return Ok(());
-    };
-    out.push_str(label)?;
-    push_hex(out, bytes.as_slice())?;
-    Ok(())
-}
+// A field under its label, where it is there.
+#[derive(Clone, Copy)]
+struct Field<'a, T>(&'a str, Option<T>);
 
-// Appends a number under its label, where it is there.
-fn push_number(out: &mut String, label: &str, field: Option<u64>) -> Result<(), AllocError>
-    ensures { Appends result (string_bytes out.old) (string_bytes out.new) (number_field label.now field) }
-{
-    let Some(number) = field else {
-        return Ok(());
-    };
-    match write!(out, "{label}{number}") {
-        Ok(()) => Ok(()),
-        Err(_) => Err(AllocError),
+impl<T: fmt::Display> fmt::Display for Field<'_, T> {
+    ghost output = { λ field. field_text T.output field.0.now field.1 };
+
+    fn fmt<W: fmt::Write>(&self, f: &mut fmt::Formatter<W>) -> fmt::Result {
+        let label = self.0;
+        match &self.1 {
+            Some(value) => write!(f, "{label}{value}"),
+            None => Ok(()),
+        }
     }
 }
 
-// The same number, in more bits.
-fn wide(field: Option<u16>) -> Option<u64>
-    ensures { result ≡ field }
+// A byte string as it prints.
+fn hex<const N: usize>(field: &Option<Bytes<N>>) -> Option<Hex<'_>>
+    ensures { option_map (λ hex. hex.0.now) result ≡ option_map content field.now }
 {
-    match field {
-        Some(number) => Some(u64::from(number)),
-        None => None,
+    Some(Hex(field.as_ref()?.as_slice()))
+}
+
+// The fields of an environment.
+#[derive(Clone, Copy)]
+struct EnvironmentText<'a>(&'a Environment);
+
+impl fmt::Display for EnvironmentText<'_> {
+    ghost output = { λ environment. Some (environment_text environment.0.now) };
+
+    fn fmt<W: fmt::Write>(&self, f: &mut fmt::Formatter<W>) -> fmt::Result {
+        let environment = self.0;
+        let class = Field(" class=", hex(&environment.class));
+        let vendor = Field(" vendor=", hex(&environment.vendor));
+        let model = Field(" model=", hex(&environment.model));
+        let layer = Field(" layer=", environment.layer);
+        let index = Field(" index=", environment.index);
+        let instance = Field(" instance=", hex(&environment.instance));
+        write!(f, "{class}{vendor}{model}{layer}{index}{instance}")
     }
 }
 
-// Appends the fields of an environment.
-fn push_environment(out: &mut String, environment: &Environment) -> Result<(), AllocError>
-    ensures { Appends result (string_bytes out.old) (string_bytes out.new) (environment_text environment.now) }
-{
-    push_bytes(out, " class=", environment.class)?;
-    push_bytes(out, " vendor=", environment.vendor)?;
-    push_bytes(out, " model=", environment.model)?;
-    push_number(out, " layer=", wide(environment.layer))?;
-    push_number(out, " index=", wide(environment.index))?;
-    push_bytes(out, " instance=", environment.instance)?;
-    Ok(())
-}
+// The digests.
+#[derive(Clone, Copy)]
+struct DigestsText<'a>(&'a Digests);
 
-// Appends the digests.
-fn push_digests(out: &mut String, digests: &Digests) -> Result<(), AllocError>
-    ensures { Appends result (string_bytes out.old) (string_bytes out.new) (digests_text digests.now) }
-{
-    push_bytes(out, " digest1=", digests.sha256)?;
-    push_bytes(out, " digest7=", digests.sha384)?;
-    push_bytes(out, " digest8=", digests.sha512)?;
-    Ok(())
-}
+impl fmt::Display for DigestsText<'_> {
+    ghost output = { λ digests. Some (digests_text digests.0.now) };
 
-// What stands before a flag: the label before the first, a comma before a later one.
-fn flag_lead(later: bool) -> &'static str
-    ensures { result.now ≡ flag_lead later }
-{
-    if later { "," } else { " flags=" }
-}
-
-// Appends a flag where it is known, and tells whether a flag stands there now.
-fn push_flag(
-    out: &mut String,
-    later: bool,
-    number: usize,
-    state: Option<bool>,
-) -> Result<bool, AllocError>
-    ensures text { Appends result (string_bytes out.old) (string_bytes out.new) (flag_text later number state) }
-    ensures stands { IfOk result (λ there. there ≡ (later || is_some state)) }
-{
-    let Some(state) = state else {
-        return Ok(later);
-    };
-    let lead = flag_lead(later);
-    match write!(out, "{lead}{number}:{state}") {
-        Ok(()) => Ok(true),
-        Err(_) => Err(AllocError),
+    fn fmt<W: fmt::Write>(&self, f: &mut fmt::Formatter<W>) -> fmt::Result {
+        let digests = self.0;
+        let sha256 = Field(" digest1=", hex(&digests.sha256));
+        let sha384 = Field(" digest7=", hex(&digests.sha384));
+        let sha512 = Field(" digest8=", hex(&digests.sha512));
+        write!(f, "{sha256}{sha384}{sha512}")
     }
 }
 
-// Appends the known flags, by number.
-fn push_flags(out: &mut String, states: &[Option<bool>]) -> Result<(), AllocError>
-    ensures { Appends result (string_bytes out.old) (string_bytes out.new) (flags_from false 0 states.now) }
-{
-    let mut later = false;
-    for i in 0..states.len() {
-        later = push_flag(out, later, i, states[i])?;
+// The known flags, by number.
+#[derive(Clone, Copy)]
+struct FlagsText<'a>(&'a [Option<bool>]);
+
+impl fmt::Display for FlagsText<'_> {
+    ghost output = { λ flags. Some (flags_from false 0 flags.0.now) };
+
+    fn fmt<W: fmt::Write>(&self, f: &mut fmt::Formatter<W>) -> fmt::Result {
+        let mut lead = " flags=";
+        for (number, state) in self.0.iter().enumerate() {
+            if let Some(state) = state {
+                write!(f, "{lead}{number}:{state}")?;
+                lead = ",";
+            }
+        }
+        Ok(())
     }
-    Ok(())
 }
 
-// Appends the values.
-fn push_values(out: &mut String, values: &Values) -> Result<(), AllocError>
-    ensures { Appends result (string_bytes out.old) (string_bytes out.new) (values_text values.now) }
-{
-    push_bytes(out, " version=", values.version)?;
-    push_number(out, " svn=", values.svn)?;
-    push_digests(out, &values.digests)?;
-    push_flags(out, &values.flags.states)?;
-    push_bytes(out, " raw=", values.raw)?;
-    Ok(())
+// The values.
+#[derive(Clone, Copy)]
+struct ValuesText<'a>(&'a Values);
+
+impl fmt::Display for ValuesText<'_> {
+    ghost output = { λ values. Some (values_text values.0.now) };
+
+    fn fmt<W: fmt::Write>(&self, f: &mut fmt::Formatter<W>) -> fmt::Result {
+        let values = self.0;
+        let version = Field(" version=", hex(&values.version));
+        let svn = Field(" svn=", values.svn);
+        let digests = DigestsText(&values.digests);
+        let flags = FlagsText(&values.flags.states);
+        let raw = Field(" raw=", hex(&values.raw));
+        write!(f, "{version}{svn}{digests}{flags}{raw}")
+    }
+}
+
+// A claim as it prints: the fields that are there, each after a space.
+#[derive(Clone, Copy)]
+pub struct ClaimText<'a>(pub &'a Claim);
+
+impl fmt::Display for ClaimText<'_> {
+    ghost output = { λ claim. Some (claim_text claim.0.now) };
+
+    fn fmt<W: fmt::Write>(&self, f: &mut fmt::Formatter<W>) -> fmt::Result {
+        let claim = self.0;
+        let environment = EnvironmentText(&claim.environment);
+        let key = Field(" key=", claim.key);
+        let values = ValuesText(&claim.values);
+        write!(f, "{environment}{key}{values}")
+    }
 }
 
 // Appends the fields of a claim that are there, each after a space.
 pub fn push_claim(out: &mut String, claim: &Claim) -> Result<(), AllocError>
     ensures { Appends result (string_bytes out.old) (string_bytes out.new) (claim_text claim.now) }
 {
-    push_environment(out, &claim.environment)?;
-    push_number(out, " key=", wide(claim.key))?;
-    push_values(out, &claim.values)?;
-    Ok(())
+    write!(out, "{}", ClaimText(claim))
 }
 
 #[cfg(test)]

@@ -1,13 +1,10 @@
-use Rattle.std.proofs.Common.{sym, ◌∙◌, arith}
-use Rattle.script.proofs.Skips.{blank_more, blank_not, blank_all}
+use Rattle.std.proofs.Common.{eqb, ◌∙◌, rules, tests}
+use Rattle.std.proofs.lemmas.Iterator.{YieldsList-from_slice}
+use Rattle.std.proofs.lemmas.Iterator.Search.{all_from_yields_List}
+use Rattle.script.proofs.Skips.{blank_each}
 use Rattle.script.proofs.commands.is_blank.Goals as goal
 
-pub returns-then-c-ne32 : goal.returns-then-c-ne32
-returns-then-c-ne32 c =
-    sym (c.loop-c.invariant ∙ blank_not c.args.line.now c.loop-c.c-index (omega arith) c.if-c-ne32.true)
-
-pub loop-c-preserved : goal.loop-c-preserved
-loop-c-preserved c = c.loop-c.invariant ∙ blank_more c.args.line.now c.loop-c.c-index (omega arith) c.if-c-ne32.false
-
 pub returns : goal.returns
-returns c = sym (c.loop-c.invariant ∙ blank_all c.args.line.now c.loop-c.c-index (omega arith))
+returns c =
+    all_from_yields_List (λ x. eqb x 32) _ _ _ c.all.ensures.ran (YieldsList-from_slice c.args.line.now cc) (λ x b q k. search (rules, tests))
+    ∙ blank_each c.args.line.now
