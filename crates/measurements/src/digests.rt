@@ -19,7 +19,7 @@ fn read_algorithm(part: Part<'_>, digests: Digests) -> Result<Read<Algorithm>, R
     ensures within { TakenFrom (piece part.entry) result }
 {
     let number = read_number(part)?;
-    let Some(algorithm) = Algorithm::from_number(number.value) else {
+    let Ok(algorithm) = Algorithm::try_from(number.value) else {
         return Err(Refusal::Unknown(part.place()));
     };
     if digests.has(algorithm) {
