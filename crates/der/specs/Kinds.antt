@@ -1,5 +1,5 @@
-use Rattle.std.specs.Prelude.{ℕ, Bool, ◌&&◌, ◌||◌, List, length, Some, None, Ok, Option, ◌==◌, slice_index}
-use Rattle.refusals.specs.Reading.{Outcome, need, or_refuse}
+use Rattle.std.specs.Prelude.{◌≡◌, ◌<◌, IfOk, ℕ, Bool, ◌&&◌, ◌||◌, List, length, Some, None, Ok, Option, ◌==◌, slice_index}
+use Rattle.refusals.specs.Reading.{Outcome, keeps, need, or_refuse}
 use Rattle.refusals.specs.declared.Refusal.TheVariants.{Malformed, OutOfLimits}
 use Rattle.der.specs.declared.kinds.Held.{Held}
 use Rattle.der.specs.declared.kinds.Kind.{Kind}
@@ -66,6 +66,12 @@ item_at kind p =
     or_refuse (item_of p) (Malformed p.at) (λ f.
     or_refuse (kind f.item) (Malformed p.at) (λ c.
     Ok (record { content = c; rest = f.rest })))
+
+-- what was taken is the first item, of a kind, with its place, and leaves fewer bytes than there were
+pub record IsTakenAs (kind : Shape → Option Piece) (p : Piece) (r : Outcome Held) : Type 0 where
+  pub value : keeps r holder ≡ item_at kind p
+  pub place : IfOk r (λ h. h.at ≡ p.at)
+  pub shorter : IfOk r (λ h. length (piece h.rest).bytes < length p.bytes)
 
 -- 00 or FF
 abbrev pub truth : List ℕ → Bool

@@ -1,9 +1,9 @@
-ghost use Rattle.std.specs.Prelude.{◌≡◌, ℕ, ◌<◌, ◌≤◌, length, IfSome, IfOk};
+ghost use Rattle.std.specs.Prelude.{◌≡◌, ℕ, ◌<◌, ◌≤◌, length, IfSome};
 ghost use Rattle.std.specs.Option.{option_map};
 ghost use Rattle.refusals.specs.Reading.{keeps};
 ghost use Rattle.parts.specs.Parts.{piece};
 ghost use Rattle.der.specs.Items.{shape, shape_of, taken, item_of};
-ghost use Rattle.der.specs.Kinds.{content_of, is_octets, is_identifier, is_sequence, holder, item_at, truth, after_boolean};
+ghost use Rattle.der.specs.Kinds.{content_of, is_octets, is_identifier, is_sequence, IsTakenAs, truth, after_boolean};
 
 use crate::heads::head_of;
 use crate::kinds::{Held, Item, Kind, Taken};
@@ -53,9 +53,7 @@ impl<'a> Item<'a> {
 
 // An item of a kind, with which a part must begin.
 fn take_kind(part: Part<'_>, kind: Kind) -> Result<Held<'_>, Refusal>
-    ensures value { keeps result holder ≡ item_at (content_of kind) (piece part.entry) }
-    ensures place { IfOk result (λ h. h.at ≡ (piece part.entry).at) }
-    ensures shorter { IfOk result (λ h. length (piece h.rest).bytes < length (piece part.entry).bytes) }
+    ensures { IsTakenAs (content_of kind) (piece part.entry) result }
 {
     let at = part.place();
     let taken = take_item(part).ok_or(Refusal::Malformed(at))?;
@@ -69,27 +67,21 @@ fn take_kind(part: Part<'_>, kind: Kind) -> Result<Held<'_>, Refusal>
 
 // A SEQUENCE, with which a part must begin.
 pub fn take_sequence(part: Part<'_>) -> Result<Held<'_>, Refusal>
-    ensures value { keeps result holder ≡ item_at is_sequence (piece part.entry) }
-    ensures place { IfOk result (λ h. h.at ≡ (piece part.entry).at) }
-    ensures shorter { IfOk result (λ h. length (piece h.rest).bytes < length (piece part.entry).bytes) }
+    ensures { IsTakenAs is_sequence (piece part.entry) result }
 {
     take_kind(part, Kind::Sequence)
 }
 
 // An OCTET STRING, with which a part must begin.
 pub fn take_octets(part: Part<'_>) -> Result<Held<'_>, Refusal>
-    ensures value { keeps result holder ≡ item_at is_octets (piece part.entry) }
-    ensures place { IfOk result (λ h. h.at ≡ (piece part.entry).at) }
-    ensures shorter { IfOk result (λ h. length (piece h.rest).bytes < length (piece part.entry).bytes) }
+    ensures { IsTakenAs is_octets (piece part.entry) result }
 {
     take_kind(part, Kind::Octets)
 }
 
 // An object identifier, with which a part must begin.
 pub fn take_identifier(part: Part<'_>) -> Result<Held<'_>, Refusal>
-    ensures value { keeps result holder ≡ item_at is_identifier (piece part.entry) }
-    ensures place { IfOk result (λ h. h.at ≡ (piece part.entry).at) }
-    ensures shorter { IfOk result (λ h. length (piece h.rest).bytes < length (piece part.entry).bytes) }
+    ensures { IsTakenAs is_identifier (piece part.entry) result }
 {
     take_kind(part, Kind::Identifier)
 }

@@ -24,77 +24,71 @@ fn read_ueid(octets: Held<'_>) -> Result<Bytes<33>, Refusal>
     Ok(instance)
 }
 
-// What an OCTET STRING holds.
-fn read_held(name: Extension, found: Extensions, octets: Held<'_>) -> Result<Extensions, Refusal>
-    ensures { result ≡ held_by name found octets.entry.at (piece octets.entry.content) }
-{
-    match name {
-        Extension::TcbInfo => Ok(Extensions {
-            info: Some(read_info(octets)?),
-            ..found
-        }),
-        Extension::Ueid => Ok(Extensions {
-            instance: Some(read_ueid(octets)?),
-            ..found
-        }),
-        Extension::Other => Ok(found),
+impl Extensions {
+    // Whether an extension that is read came already.
+    fn has(&self, name: Extension) -> bool
+        ensures { result ≡ again name self.now }
+    {
+        match name {
+            Extension::TcbInfo => self.info.is_some(),
+            Extension::Ueid => self.instance.is_some(),
+            Extension::Other => false,
+        }
     }
-}
 
-// Whether an extension that is read comes again.
-fn is_again(name: Extension, found: &Extensions) -> bool
-    ensures { result ≡ again name found.now }
-{
-    match name {
-        Extension::TcbInfo => found.info.is_some(),
-        Extension::Ueid => found.instance.is_some(),
-        Extension::Other => false,
+    // With what an OCTET STRING holds.
+    fn read_held(self, name: Extension, octets: Held<'_>) -> Result<Extensions, Refusal>
+        ensures { result ≡ held_by name self octets.entry.at (piece octets.entry.content) }
+    {
+        match name {
+            Extension::TcbInfo => Ok(Extensions {
+                info: Some(read_info(octets)?),
+                ..self
+            }),
+            Extension::Ueid => Ok(Extensions {
+                instance: Some(read_ueid(octets)?),
+                ..self
+            }),
+            Extension::Other => Ok(self),
+        }
     }
-}
 
-// The OCTET STRING, which fills what is left of an extension.
-fn read_value(
-    name: Extension,
-    found: Extensions,
-    extension: Held<'_>,
-) -> Result<Extensions, Refusal>
-    ensures { result ≡ extension_value name found extension.entry.at (piece extension.entry.content) }
-{
-    let value = take_octets(extension.filled()?)?;
-    let found = read_held(name, found, value)?;
-    value.ended()?;
-    Ok(found)
-}
-
-// What follows the object identifier: perhaps a BOOLEAN, and the OCTET STRING.
-fn read_after_name(
-    name: Extension,
-    found: Extensions,
-    extension: Held<'_>,
-) -> Result<Extensions, Refusal>
-    ensures { result ≡ after_name name found extension.entry.at (piece extension.entry.content) }
-{
-    let left = Held {
-        content: skip_boolean(extension.filled()?)?,
-        ..extension
-    };
-    read_value(name, found, left)
-}
-
-// The parts of an extension.
-fn read_parts(found: Extensions, extension: Held<'_>) -> Result<Extensions, Refusal>
-    ensures { result ≡ extension_parts found extension.entry.at (piece extension.entry.content) }
-{
-    let identifier = take_identifier(extension.filled()?)?;
-    let name = extension_of(identifier.content.bytes());
-    if is_again(name, &found) {
-        return Err(Refusal::Unknown(extension.at));
+    // With the OCTET STRING, which fills what is left of an extension.
+    fn read_value(self, name: Extension, extension: Held<'_>) -> Result<Extensions, Refusal>
+        ensures { result ≡ extension_value name self extension.entry.at (piece extension.entry.content) }
+    {
+        let value = take_octets(extension.filled()?)?;
+        let found = self.read_held(name, value)?;
+        value.ended()?;
+        Ok(found)
     }
-    let left = Held {
-        content: identifier.rest,
-        ..extension
-    };
-    read_after_name(name, found, left)
+
+    // With what follows the object identifier: perhaps a BOOLEAN, and the OCTET STRING.
+    fn read_after_name(self, name: Extension, extension: Held<'_>) -> Result<Extensions, Refusal>
+        ensures { result ≡ after_name name self extension.entry.at (piece extension.entry.content) }
+    {
+        let left = Held {
+            content: skip_boolean(extension.filled()?)?,
+            ..extension
+        };
+        self.read_value(name, left)
+    }
+
+    // With the parts of an extension.
+    fn read_parts(self, extension: Held<'_>) -> Result<Extensions, Refusal>
+        ensures { result ≡ extension_parts self extension.entry.at (piece extension.entry.content) }
+    {
+        let identifier = take_identifier(extension.filled()?)?;
+        let name = extension_of(identifier.content.bytes());
+        if self.has(name) {
+            return Err(Refusal::Unknown(extension.at));
+        }
+        let left = Held {
+            content: identifier.rest,
+            ..extension
+        };
+        self.read_after_name(name, left)
+    }
 }
 
 impl Elements for Extensions {
@@ -102,7 +96,7 @@ impl Elements for Extensions {
 
     fn read_element(self, part: Part<'_>) -> Result<Read<Extensions>, Refusal> {
         let sequence = take_sequence(part)?;
-        let value = read_parts(self, sequence)?;
+        let value = self.read_parts(sequence)?;
         Ok(Read {
             value,
             size: part.before(sequence.rest),
