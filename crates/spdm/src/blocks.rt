@@ -97,7 +97,7 @@ fn claim_of(setup: &Setup, block: &BlockRef) -> Option<Claim>
 }
 
 // What the block at the beginning of a part gives, which stands behind a block of the index `last`.
-fn read_entry(setup: &Setup, last: Option<u64>, part: Part<'_>) -> Result<Entry, Refusal>
+pub fn read_entry(setup: &Setup, last: Option<u64>, part: Part<'_>) -> Result<Entry, Refusal>
     ensures value { result ≡ entry_of setup.now last (piece part.entry).at (piece part.entry).bytes }
     ensures within { IfOk result (λ e. (7 ≤ e.size) × (e.size ≤ length (piece part.entry).bytes)) }
 {
