@@ -4,18 +4,23 @@ use Rattle.std.proofs.lemmas.Option.{slice_get-get_or}
 use Rattle.refusals.specs.Reading.{Outcome, onward, keeps, admitted}
 use Rattle.claims.specs.declared.kinds.Claim.{Claim}
 use Rattle.evidence.specs.Readings.{Reading, claim_at}
-use Rattle.session.specs.Readings.{claim_line, line_of, claim_lines, claims_of, heading, heard_by, reading_text}
+use Rattle.session.specs.Readings.{claim_line, claim_lines, claims_of, heading, heard_by, reading_text}
+
+claim_is : (cs : List Claim) (d : Claim) (n : ℕ) → n < length cs → claim_at (Ok cs) n ≡ Ok (get_or cs n d)
+claim_is cs d n h = rw (slice_get-get_or cs n d h)
 
 -- one claim more stands at the end
-pub lines_more : (r : Reading) (n : ℕ) (was mid end : List ℕ) → n < length (claims_of r)
-    → mid ≡ was ++ claim_lines (take n (claims_of r)) → end ≡ mid ++ line_of (claim_at r n) → end ≡ was ++ claim_lines (take (n + 1) (claims_of r))
-lines_more (Err e) n was mid end h p q = absurd (omega arith)
-lines_more (Ok []) n was mid end h p q = absurd (omega arith)
-lines_more (Ok (c ∷ cs)) n was mid end h p q =
+pub lines_more : (r : Reading) (n : ℕ) (claim : Claim) → n < length (claims_of r) → Ok claim ≡ claim_at r n
+    → claim_lines (take n (claims_of r)) ++ claim_line claim ≡ claim_lines (take (n + 1) (claims_of r))
+lines_more (Err e) n claim h k = absurd (omega arith)
+lines_more (Ok []) n claim h k = absurd (omega arith)
+lines_more (Ok (c ∷ cs)) n claim h k =
     let all : List Claim = c ∷ cs in
-    let here : line_of (claim_at (Ok all) n) ≡ claim_line (get_or all n c) = rw (slice_get-get_or all n c h) in
-    q ∙ rw (p, here) (flat_map_more claim_line was (take n all) (get_or all n c))
-    ∙ ap (λ (l : List Claim). was ++ claim_lines l) (sym (take_more all n c h))
+    let p : Ok claim ≡ Ok (get_or all n c) = k ∙ claim_is all c n h in
+    let e : claim ≡ get_or all n c = cc in
+    ap (λ (x : Claim). claim_lines (take n all) ++ claim_line x) e
+    ∙ flat_map_more claim_line [] (take n all) (get_or all n c)
+    ∙ ap (λ (l : List Claim). claim_lines l) (sym (take_more all n c h))
 
 -- what the count of an admitted message tells of its text
 counted_told : (a : Outcome (Unit {0})) (r : Reading) (n : ℕ) → keeps (onward a (λ _. r)) length ≡ Ok n

@@ -1,6 +1,6 @@
 use Rattle.std.specs.Prelude.{ℕ, List, [], ◌++◌, length, Ok, Err, codes, decimal}
 use Rattle.std.specs.List.{flat_map}
-use Rattle.refusals.specs.Reading.{Outcome, onward, admitted}
+use Rattle.refusals.specs.Reading.{onward, admitted}
 use Rattle.claims.specs.declared.kinds.Claim.{Claim}
 use Rattle.evidence.specs.Readings.{Reading}
 use Rattle.text.specs.Refusals.{refusal_text}
@@ -18,11 +18,6 @@ heard_by reads m = onward (admitted m) (λ _. reads m)
 -- a claim on a line of its own
 abbrev pub claim_line : Claim → List ℕ
 claim_line c = codes "\n " ++ claim_text c
-
--- the same of an answer; a refusal has no line
-abbrev pub line_of : Outcome Claim → List ℕ
-line_of (Ok c) = claim_line c
-line_of (Err e) = []
 
 abbrev pub claim_lines : List Claim → List ℕ
 claim_lines cs = flat_map claim_line cs

@@ -1,14 +1,13 @@
 // wovyjara [FILE]: answers each line of the file, or of standard input, at once.
 #![tactic(auto)]
 
-use script::complaints::Complaint;
 use session::lines::answer;
 use std::io::{BufRead, BufReader};
 use std::process::ExitCode;
 use std::{env, fs, io};
 
 // Answers a line, and tells whether it was taken.
-fn serve_line(rt: &HostRuntime, number: u64, line: &[u8]) -> io::Result<bool> {
+fn serve_line(rt: &HostRuntime, number: usize, line: &[u8]) -> io::Result<bool> {
     match answer(rt.alloc(), line) {
         Ok(None) => Ok(true),
         Ok(Some(text)) => {
@@ -16,8 +15,7 @@ fn serve_line(rt: &HostRuntime, number: u64, line: &[u8]) -> io::Result<bool> {
             Ok(true)
         }
         Err(complaint) => {
-            let wrong = complaint.text();
-            eprintln!(rt; "line {number}: {wrong}")?;
+            eprintln!(rt; "line {number}: {complaint}")?;
             Ok(false)
         }
     }
@@ -26,13 +24,9 @@ fn serve_line(rt: &HostRuntime, number: u64, line: &[u8]) -> io::Result<bool> {
 // Answers all lines, and tells whether each was taken.
 fn serve<R: BufRead + Drop>(rt: &HostRuntime, input: R) -> io::Result<bool> {
     let mut all_taken = true;
-    let mut number: u64 = 0;
-    for line in input.split(rt.alloc(), b'\n') {
+    for (index, line) in input.split(rt.alloc(), b'\n').enumerate() {
         let line = line?;
-        number = number.saturating_add(1);
-        if !serve_line(rt, number, line.as_slice())? {
-            all_taken = false;
-        }
+        all_taken &= serve_line(rt, index + 1, line.as_slice())?;
     }
     Ok(all_taken)
 }
