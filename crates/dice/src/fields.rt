@@ -77,6 +77,7 @@ impl Elements for Fields {
         let Item::Field(tag, content) = taken.item else {
             return Err(Refusal::Unknown(at));
         };
+        // A `map_err` here would leave the proof without what the conversion says.
         let Ok(field) = Field::try_from(tag) else {
             return Err(Refusal::Unknown(at));
         };

@@ -20,9 +20,7 @@ impl Spdm {
         ensures { keeps result (λ s. s.setup) ≡ setup_of class.now algorithm }
     {
         let class = Bytes::new(class, 1).ok_or(Refusal::OutOfLimits(0))?;
-        let Ok(algorithm) = Algorithm::try_from(algorithm) else {
-            return Err(Refusal::OutOfLimits(0));
-        };
+        let algorithm = Algorithm::try_from(algorithm).map_err(|_| Refusal::OutOfLimits(0))?;
         Ok(Spdm {
             setup: Setup { class, algorithm },
         })
