@@ -1,5 +1,5 @@
-ghost use Rattle.std.specs.Prelude.{◌≡◌, ℕ, ◌+◌, ◌<◌, ◌≤◌, length, IfSome};
-ghost use Rattle.cbor.specs.Heads.{long_head, by_info, head_of};
+ghost use Rattle.std.specs.Prelude.{◌≡◌, ◌<◌, ◌≤◌, length, IfSome};
+ghost use Rattle.cbor.specs.Heads.{long_head, head_of};
 
 use crate::kinds::Head;
 use parts::numbers::read_big;

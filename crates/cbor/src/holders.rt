@@ -1,4 +1,4 @@
-ghost use Rattle.std.specs.Prelude.{◌≡◌, ℕ, ◌+◌, ◌<◌, ◌≤◌, length, IfOk, Ok, Result as Answer, nat_lt};
+ghost use Rattle.std.specs.Prelude.{◌≡◌, ℕ, ◌≤◌, length, IfOk, Ok, Result as Answer, nat_lt};
 ghost use Rattle.refusals.specs.Reading.{need};
 ghost use Rattle.refusals.specs.declared.Refusal.TheVariants.{Missing};
 ghost use Rattle.refusals.specs.declared.Refusal.{Refusal as Turned};

@@ -1,4 +1,4 @@
-ghost use Rattle.std.specs.Prelude.{◌≡◌, ℕ, ◌≤◌, Bool, IfOk};
+ghost use Rattle.std.specs.Prelude.{◌≡◌, ◌≤◌, IfOk};
 ghost use Rattle.std.specs.Option.{ok_or};
 ghost use Rattle.refusals.specs.declared.Refusal.TheVariants.{OutOfLimits};
 ghost use Rattle.claims.specs.Bytes.{kept_from};

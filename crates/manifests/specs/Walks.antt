@@ -1,4 +1,4 @@
-use Rattle.std.specs.Prelude.{ℕ, ◌+◌, ◌-◌, cond, not, List, [], ◌∷◌, ◌++◌, length, Some, None, Ok, Option, nat_lt}
+use Rattle.std.specs.Prelude.{ℕ, ◌+◌, ◌-◌, ◌<◌, ◌≤◌, cond, not, List, [], ◌∷◌, ◌++◌, length, Some, None, Ok, Err, Option, nat_lt}
 use Rattle.refusals.specs.Reading.{Outcome, onward, keeps, need, or_refuse, above}
 use Rattle.refusals.specs.declared.Refusal.TheVariants.{Malformed, Unknown, Missing}
 use Rattle.claims.specs.Environments.{no_environment}
@@ -119,3 +119,18 @@ step_from c m =
     (cond (nat_lt 0 c.elements) (some (section_step c.section c m))
     (cond (nat_lt 0 c.entries) (some (entry_step c m))
     (need (not (nat_lt c.used (length m))) (Malformed c.used) (Ok None))))
+
+-- the triple of a step, if there is one
+abbrev pub triple_of : Option Step → Option Triple
+triple_of None = None
+triple_of (Some s) = Some s.triple
+
+-- where a walk stands behind a step; it stays where there is none
+abbrev pub cursor_behind : Cursor → Outcome (Option Step) → Cursor
+cursor_behind c (Ok (Some s)) = s.cursor
+cursor_behind c (Ok None) = c
+cursor_behind c (Err e) = c
+
+-- a step goes on, within the message
+abbrev pub GoesOn : Cursor → List ℕ → Step → Type 0
+GoesOn c m s = (c.used < s.cursor.used) × (s.cursor.used ≤ length m)

@@ -43,6 +43,13 @@ pub struct Cursor {
     pub(crate) maps: u64,
 }
 
+// A walk over the triples of a message: the message, and where the walk stands.
+#[derive(Clone, Copy)]
+pub struct Walk<'a> {
+    pub(crate) message: &'a [u8],
+    pub(crate) cursor: Cursor,
+}
+
 // The next triple, and where the walk stands behind it.
 #[derive(Clone, Copy)]
 pub struct Step {

@@ -6,7 +6,7 @@ ghost use Rattle.manifests.specs.Readings.{counted, triple_at};
 ghost use Rattle.manifests.specs.Triples.{triples_of};
 
 use crate::kinds::Triple;
-use crate::walks::{begin, next};
+use crate::walks::begin;
 use parts::kinds::Pick;
 use refusals::Refusal;
 
@@ -14,14 +14,13 @@ use refusals::Refusal;
 fn pick_triple(signer: u64, message: &[u8], wanted: usize) -> Result<Pick<Triple>, Refusal>
     ensures { result ≡ keeps (triples_of signer message.now) (picked wanted) }
 {
-    let mut cursor = begin(signer, message)?;
+    let mut walk = begin(signer, message)?;
     let mut pick = Pick {
         seen: 0,
         kept: None,
     };
-    while let Some(step) = next(cursor, message)? {
-        pick = pick.note(wanted, step.triple);
-        cursor = step.cursor;
+    while let Some(triple) = walk.next()? {
+        pick = pick.note(wanted, triple);
     }
     Ok(pick)
 }

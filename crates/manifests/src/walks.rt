@@ -1,70 +1,18 @@
-ghost use Rattle.std.specs.Prelude.{◌≡◌, ℕ, ◌-◌, ◌<◌, ◌≤◌, Bool, List, length, IfSome, IfOk};
+ghost use Rattle.std.specs.Prelude.{◌≡◌, ◌-◌, ◌<◌, ◌≤◌, length, IfSome, IfOk};
 ghost use Rattle.parts.specs.Parts.{piece};
+ghost use Rattle.refusals.specs.Reading.{keeps};
 ghost use Rattle.manifests.specs.Laws.{WalkedWhole};
-ghost use Rattle.manifests.specs.Walks.{array_some, ahead_of, begun, map_step, record_step, past_element, section_step, entry_step, step_from};
+ghost use Rattle.manifests.specs.Walks.{GoesOn, ahead_of, begun, map_step, record_step, past_element, section_step, entry_step, step_from, triple_of, cursor_behind};
 
-use crate::kinds::{Cursor, Section, Step};
+use crate::kinds::{Cursor, Section, Step, Triple, Walk};
 use crate::triples::{read_conditional, read_endorsement, read_reference, section_of};
+use cbor::holders::filled;
 use cbor::scalars::{read_array, read_map, read_number};
 use claims::kinds::Environment;
-use parts::kinds::{Part, Read};
+use parts::kinds::Part;
 use records::records::read_record_head;
 use refusals::Refusal;
 use refusals::reading::rises;
-
-// The head of an array that is not empty.
-fn read_array_some(part: Part<'_>) -> Result<Read<u64>, Refusal>
-    ensures value { result ≡ array_some (piece part.entry) }
-    ensures within { IfOk result (λ x. (0 < x.size) × (x.size ≤ length (piece part.entry).bytes)) }
-{
-    let head = read_array(part)?;
-    if head.value == 0 {
-        return Err(Refusal::Missing(part.place()));
-    }
-    Ok(head)
-}
-
-// The message from a cursor on.
-fn ahead<'a>(cursor: &Cursor, message: &'a [u8]) -> Part<'a>
-    ensures value { piece result ≡ ahead_of cursor.now message.now }
-    ensures len { length (piece result).bytes ≡ length message.now - cursor.now.used }
-{
-    Part::whole(message).after(cursor.used)
-}
-
-// The next measurement map of a reference record.
-fn next_map(cursor: Cursor, message: &[u8]) -> Result<Step, Refusal>
-    ensures value { result ≡ map_step cursor message.now }
-    ensures within { IfOk result (λ s. (cursor.used < s.cursor.used) × (s.cursor.used ≤ length message.now)) }
-{
-    let map = read_reference(ahead(&cursor, message), cursor.signer, cursor.environment)?;
-    Ok(Step {
-        triple: map.value,
-        cursor: Cursor {
-            used: cursor.used + map.size,
-            maps: cursor.maps.saturating_sub(1),
-            ..cursor
-        },
-    })
-}
-
-// The next reference record, and its first measurement map.
-fn next_record(cursor: Cursor, message: &[u8]) -> Result<Step, Refusal>
-    ensures value { result ≡ record_step cursor message.now }
-    ensures within { IfOk result (λ s. (cursor.used < s.cursor.used) × (s.cursor.used ≤ length message.now)) }
-{
-    let part = ahead(&cursor, message);
-    let head = read_record_head(part)?;
-    let maps = read_array_some(part.after(head.size))?;
-    let inside = Cursor {
-        used: cursor.used + (head.size + maps.size),
-        elements: cursor.elements.saturating_sub(1),
-        environment: head.value,
-        maps: maps.value,
-        ..cursor
-    };
-    next_map(inside, message)
-}
 
 // The cursor behind an element of so many bytes.
 fn past_element(cursor: Cursor, used: usize) -> Cursor
@@ -78,96 +26,152 @@ fn past_element(cursor: Cursor, used: usize) -> Cursor
     }
 }
 
-// The first triple of the next element.
-fn next_element(cursor: Cursor, message: &[u8]) -> Result<Step, Refusal>
-    ensures value { result ≡ section_step cursor.section cursor message.now }
-    ensures within { IfOk result (λ s. (cursor.used < s.cursor.used) × (s.cursor.used ≤ length message.now)) }
-{
-    match cursor.section {
-        Section::References => next_record(cursor, message),
-        Section::Endorsements => {
-            let triple = read_endorsement(ahead(&cursor, message), cursor.signer)?;
-            Ok(Step {
-                triple: triple.value,
-                cursor: past_element(cursor, cursor.used + triple.size),
-            })
+impl<'a> Walk<'a> {
+    // The message from the cursor on.
+    fn ahead(self) -> Part<'a>
+        ensures value { piece result ≡ ahead_of self.entry.cursor self.entry.message.now }
+        ensures len { length (piece result).bytes ≡ length self.entry.message.now - self.entry.cursor.used }
+    {
+        Part::whole(self.message).after(self.cursor.used)
+    }
+
+    // The next measurement map of a reference record.
+    fn next_map(self) -> Result<Step, Refusal>
+        ensures value { result ≡ map_step self.entry.cursor self.entry.message.now }
+        ensures within { IfOk result (GoesOn self.entry.cursor self.entry.message.now) }
+    {
+        let cursor = self.cursor;
+        let map = read_reference(self.ahead(), cursor.signer, cursor.environment)?;
+        Ok(Step {
+            triple: map.value,
+            cursor: Cursor {
+                used: cursor.used + map.size,
+                maps: cursor.maps.saturating_sub(1),
+                ..cursor
+            },
+        })
+    }
+
+    // The next reference record, and its first measurement map.
+    fn next_record(self) -> Result<Step, Refusal>
+        ensures value { result ≡ record_step self.entry.cursor self.entry.message.now }
+        ensures within { IfOk result (GoesOn self.entry.cursor self.entry.message.now) }
+    {
+        let cursor = self.cursor;
+        let part = self.ahead();
+        let head = read_record_head(part)?;
+        let rest = part.after(head.size);
+        let maps = filled(read_array(rest)?, rest)?;
+        let inside = Cursor {
+            used: cursor.used + (head.size + maps.size),
+            elements: cursor.elements.saturating_sub(1),
+            environment: head.value,
+            maps: maps.value,
+            ..cursor
+        };
+        let walk = Walk {
+            cursor: inside,
+            ..self
+        };
+        walk.next_map()
+    }
+
+    // The first triple of the next element.
+    fn next_element(self) -> Result<Step, Refusal>
+        ensures value { result ≡ section_step self.entry.cursor.section self.entry.cursor self.entry.message.now }
+        ensures within { IfOk result (GoesOn self.entry.cursor self.entry.message.now) }
+    {
+        let cursor = self.cursor;
+        let triple = match cursor.section {
+            Section::References => return self.next_record(),
+            Section::Endorsements => read_endorsement(self.ahead(), cursor.signer)?,
+            Section::Conditionals => read_conditional(self.ahead(), cursor.signer)?,
+        };
+        Ok(Step {
+            triple: triple.value,
+            cursor: past_element(cursor, cursor.used + triple.size),
+        })
+    }
+
+    // The first triple of the next entry.
+    fn next_entry(self) -> Result<Step, Refusal>
+        ensures value { result ≡ entry_step self.entry.cursor self.entry.message.now }
+        ensures within { IfOk result (GoesOn self.entry.cursor self.entry.message.now) }
+    {
+        let cursor = self.cursor;
+        let part = self.ahead();
+        let key = read_number(part)?;
+        if !rises(cursor.last, key.value) {
+            return Err(Refusal::Unknown(part.place()));
         }
-        Section::Conditionals => {
-            let pair = read_conditional(ahead(&cursor, message), cursor.signer)?;
-            Ok(Step {
-                triple: pair.value,
-                cursor: past_element(cursor, cursor.used + pair.size),
-            })
+        let section = section_of(key.value).ok_or(Refusal::Unknown(part.place()))?;
+        let rest = part.after(key.size);
+        let elements = filled(read_array(rest)?, rest)?;
+        let inside = Cursor {
+            used: cursor.used + (key.size + elements.size),
+            entries: cursor.entries.saturating_sub(1),
+            last: Some(key.value),
+            section,
+            elements: elements.value,
+            maps: 0,
+            ..cursor
+        };
+        let walk = Walk {
+            cursor: inside,
+            ..self
+        };
+        walk.next_element()
+    }
+
+    // The next step, by what is left first: measurement maps, elements, entries.
+    fn step(self) -> Result<Option<Step>, Refusal>
+        ensures value { result ≡ step_from self.entry.cursor self.entry.message.now }
+        ensures within { IfOk result (λ o. IfSome o (GoesOn self.entry.cursor self.entry.message.now)) }
+    {
+        let cursor = self.cursor;
+        if cursor.maps > 0 {
+            return self.next_map().map(Some);
         }
+        if cursor.elements > 0 {
+            return self.next_element().map(Some);
+        }
+        if cursor.entries > 0 {
+            return self.next_entry().map(Some);
+        }
+        if cursor.used < self.message.len() {
+            return Err(Refusal::Malformed(cursor.used));
+        }
+        Ok(None)
+    }
+
+    // The next triple, behind which the walk then stands; none at the end of the message. Where there is none, or a refusal, it stays.
+    #[tactic(auto, using(crate::proofs::Limits::walked_whole))]
+    pub fn next(&mut self) -> Result<Option<Triple>, Refusal>
+        ensures value { result ≡ keeps (step_from self.old.cursor self.old.message.now) triple_of }
+        ensures cursor { self.new.cursor ≡ cursor_behind self.old.cursor (step_from self.old.cursor self.old.message.now) }
+        ensures message { self.new.message.now ≡ self.old.message.now }
+        ensures within { IfOk result (λ o. IfSome o (λ _. (self.old.cursor.used < self.new.cursor.used) × (self.new.cursor.used ≤ length self.old.message.now))) }
+        ensures law { WalkedWhole self.old.message.now }
+    {
+        let Some(step) = self.step()? else {
+            return Ok(None);
+        };
+        self.cursor = step.cursor;
+        Ok(Some(step.triple))
     }
 }
 
-// The first triple of the next entry.
-fn next_entry(cursor: Cursor, message: &[u8]) -> Result<Step, Refusal>
-    ensures value { result ≡ entry_step cursor message.now }
-    ensures within { IfOk result (λ s. (cursor.used < s.cursor.used) × (s.cursor.used ≤ length message.now)) }
-{
-    let part = ahead(&cursor, message);
-    let key = read_number(part)?;
-    if !rises(cursor.last, key.value) {
-        return Err(Refusal::Unknown(part.place()));
-    }
-    let Some(section) = section_of(key.value) else {
-        return Err(Refusal::Unknown(part.place()));
-    };
-    let elements = read_array_some(part.after(key.size))?;
-    let inside = Cursor {
-        used: cursor.used + (key.size + elements.size),
-        entries: cursor.entries.saturating_sub(1),
-        last: Some(key.value),
-        section,
-        elements: elements.value,
-        maps: 0,
-        ..cursor
-    };
-    next_element(inside, message)
-}
-
-// The next step of a walk, by what is left first: measurement maps, elements, entries.
-fn step_from(cursor: Cursor, message: &[u8]) -> Result<Option<Step>, Refusal>
-    ensures value { result ≡ step_from cursor message.now }
-    ensures within { IfOk result (λ o. IfSome o (λ s. (cursor.used < s.cursor.used) × (s.cursor.used ≤ length message.now))) }
-{
-    if cursor.maps > 0 {
-        return Ok(Some(next_map(cursor, message)?));
-    }
-    if cursor.elements > 0 {
-        return Ok(Some(next_element(cursor, message)?));
-    }
-    if cursor.entries > 0 {
-        return Ok(Some(next_entry(cursor, message)?));
-    }
-    if cursor.used < message.len() {
-        return Err(Refusal::Malformed(cursor.used));
-    }
-    Ok(None)
-}
-
-// The next triple of a walk over a message, and the cursor behind it; none at the end of the message.
-pub fn next(cursor: Cursor, message: &[u8]) -> Result<Option<Step>, Refusal>
-    ensures value { result ≡ step_from cursor message.now }
-    ensures within { IfOk result (λ o. IfSome o (λ s. (cursor.used < s.cursor.used) × (s.cursor.used ≤ length message.now))) }
+// A walk at the beginning of a message, behind the head of the manifest.
+#[tactic(auto, using(crate::proofs::Limits::walked_whole))]
+pub fn begin(signer: u64, message: &[u8]) -> Result<Walk<'_>, Refusal>
+    ensures value { keeps result (λ w. w.cursor) ≡ begun signer message.now }
+    ensures message { IfOk result (λ w. w.message.now ≡ message.now) }
+    ensures within { IfOk result (λ w. w.cursor.used ≤ length message.now) }
     ensures law { WalkedWhole message.now }
 {
-    step_from(cursor, message)
-}
-
-// The cursor at the beginning of a message, behind the head of the manifest.
-pub fn begin(signer: u64, message: &[u8]) -> Result<Cursor, Refusal>
-    ensures value { result ≡ begun signer message.now }
-    ensures within { IfOk result (λ c. c.used ≤ length message.now) }
-    ensures law { WalkedWhole message.now }
-{
-    let head = read_map(Part::whole(message))?;
-    if head.value == 0 {
-        return Err(Refusal::Missing(0));
-    }
-    Ok(Cursor {
+    let whole = Part::whole(message);
+    let head = filled(read_map(whole)?, whole)?;
+    let cursor = Cursor {
         signer,
         used: head.size,
         entries: head.value,
@@ -176,5 +180,6 @@ pub fn begin(signer: u64, message: &[u8]) -> Result<Cursor, Refusal>
         elements: 0,
         environment: Environment::NONE,
         maps: 0,
-    })
+    };
+    Ok(Walk { message, cursor })
 }

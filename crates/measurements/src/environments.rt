@@ -1,4 +1,4 @@
-ghost use Rattle.std.specs.Prelude.{◌≡◌, ℕ, ◌<◌, ◌≤◌, length, IfOk};
+ghost use Rattle.std.specs.Prelude.{◌≡◌};
 ghost use Rattle.parts.specs.Parts.{piece};
 ghost use Rattle.parts.specs.Reads.{TakenFrom};
 ghost use Rattle.measurements.specs.Environments.{class_field, class_map, environment_field, environment_map};

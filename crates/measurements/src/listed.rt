@@ -1,4 +1,4 @@
-ghost use Rattle.std.specs.Prelude.{◌≡◌, ℕ, ◌<◌, ◌≤◌, length, IfOk};
+ghost use Rattle.std.specs.Prelude.{◌≡◌};
 ghost use Rattle.parts.specs.Parts.{piece};
 ghost use Rattle.parts.specs.Reads.{TakenFrom};
 ghost use Rattle.measurements.specs.Listed.{authority_at, authority_array};

@@ -1,4 +1,4 @@
-ghost use Rattle.std.specs.Prelude.{◌≡◌, ℕ, ◌<◌, ◌≤◌, Bool, length, IfOk};
+ghost use Rattle.std.specs.Prelude.{◌≡◌};
 ghost use Rattle.parts.specs.Parts.{piece};
 ghost use Rattle.parts.specs.Reads.{TakenFrom};
 ghost use Rattle.conditions.specs.Wanted.{some_wanted};

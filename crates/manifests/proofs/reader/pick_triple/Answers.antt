@@ -1,26 +1,24 @@
-use Rattle.std.proofs.Common.{sym, arith, rules}
-use Rattle.manifests.proofs.Passed.{pass_begins, pass_never, pass_goes, pass_stops, pass_ends}
+use Rattle.std.proofs.Common.{refl, arith, rules}
+use Rattle.manifests.proofs.Passed.{pass_begins, pass_nears, pass_goes, pass_stops, pass_ends}
 use Rattle.manifests.proofs.reader.pick_triple.Goals as goal
 
-pub returns-in_err-cursor : goal.returns-in_err-cursor
-returns-in_err-cursor c =
-    let never = pass_never c.args.signer c.args.message.now c.args.wanted _ (sym c.in_err-cursor.ensures.value) in
+pub loop-triple-init : goal.loop-triple-init
+loop-triple-init c =
+    pass_begins c.args.signer c.args.message.now c.args.wanted c.in_ok-walk.walk c.in_ok-walk.ensures.value c.in_ok-walk.ensures.within c.in_ok-walk.ensures.message
+
+pub returns-in_err-triple : goal.returns-in_err-triple
+returns-in_err-triple c =
+    let stopped = pass_stops c.args.signer c.args.message.now c.args.wanted _ _ c.loop-triple.invariant _ _ refl c.in_err-triple.ensures.value in
     search rules
 
-pub loop-step-init : goal.loop-step-init
-loop-step-init c =
-    pass_begins c.args.signer c.args.message.now c.args.wanted _ (sym c.in_ok-cursor.ensures.value) c.in_ok-cursor.ensures.within
+pub loop-triple-smaller : goal.loop-triple-smaller
+loop-triple-smaller c =
+    pass_nears c.args.signer c.args.message.now c.args.wanted _ _ c.loop-triple.invariant c.in_ok-triple.field-0 c.in-Some.triple c.in-Some.is c.next.new.self c.in_ok-triple.ensures.within
 
-pub returns-in_err-step : goal.returns-in_err-step
-returns-in_err-step c =
-    let stopped = pass_stops c.args.signer c.args.message.now c.args.wanted _ _ c.loop-step.invariant _ (sym c.in_err-step.ensures.value) in
-    search rules
-
-pub loop-step-preserved : goal.loop-step-preserved
-loop-step-preserved c =
-    pass_goes c.args.signer c.args.message.now c.args.wanted _ _ c.loop-step.invariant c.in_ok-step.field-0 c.in-Some.step _
-    c.in-Some.is c.in_ok-step.ensures.value c.in_ok-step.ensures.within (omega arith) c.note-pick.ensures
+pub loop-triple-preserved : goal.loop-triple-preserved
+loop-triple-preserved c =
+    pass_goes c.args.signer c.args.message.now c.args.wanted _ _ c.loop-triple.invariant c.in_ok-triple.field-0 c.in-Some.triple c.in-Some.is c.next.new.self c.in_ok-triple.ensures.within c.next.ensures.message (omega arith) _ c.note-pick.ensures
+    _ refl c.in_ok-triple.ensures.value c.next.ensures.cursor
 
 pub returns : goal.returns
-returns c =
-    sym (pass_ends c.args.signer c.args.message.now c.args.wanted _ _ c.loop-step.invariant c.in_ok-step.field-0 c.in_default.is c.in_ok-step.ensures.value)
+returns c = pass_ends c.args.signer c.args.message.now c.args.wanted _ _ c.loop-triple.invariant _ _ c.in_default.is refl c.in_ok-triple.ensures.value

@@ -2,8 +2,8 @@ use Rattle.std.proofs.Common.{◌-◌, length}
 use Rattle.manifests.proofs.Passed.{Passed}
 use Rattle.manifests.proofs.reader.pick_triple.Given as goal
 
-abbrev pub invariant-loop-step : goal.invariant-loop-step
-invariant-loop-step l = Passed l.signer l.message l.wanted l.cursor l.pick
+abbrev pub invariant-loop-triple : goal.invariant-loop-triple
+invariant-loop-triple l = Passed l.signer l.message l.wanted l.walk l.pick
 
-abbrev pub decreases-loop-step : goal.decreases-loop-step
-decreases-loop-step l = length l.message - l.cursor.used
+abbrev pub decreases-loop-triple : goal.decreases-loop-triple
+decreases-loop-triple l = length l.message - l.walk.cursor.used
