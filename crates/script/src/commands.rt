@@ -104,10 +104,7 @@ mod tests {
     use std::test::Fail;
 
     fn complaint(heap: Global, line: &[u8]) -> Option<Complaint> {
-        match parse(heap, line) {
-            Ok(_) => None,
-            Err(complaint) => Some(complaint),
-        }
+        parse(heap, line).err()
     }
 
     #[test]
