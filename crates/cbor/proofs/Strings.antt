@@ -94,7 +94,7 @@ reads_content = reads_same (reads_content_at 2) (λ p. stores (item_as is_bytes 
 pub reads_text_content : Reads (λ p. stores (item_as is_text p) (λ q. q.bytes)) (Content 3)
 reads_text_content = reads_same (reads_content_at 3) (λ p. stores (item_as is_text p) (λ q. q.bytes)) (λ p. text_held (head_of p.bytes) p)
 
-onward_keeps : {A B C : Type 0} (r : Outcome A) (g : A → B) (f : B → Outcome C) → onward r (λ x. f (g x)) ≡ onward (keeps r g) f
+pub onward_keeps : {A B C : Type 0} (r : Outcome A) (g : A → B) (f : B → Outcome C) → onward (keeps r g) f ≡ onward r (λ x. f (g x))
 onward_keeps (Ok x) g f = refl
 onward_keeps (Err e) g f = refl
 
@@ -102,7 +102,7 @@ onward_keeps (Err e) g f = refl
 module _ (kind : Shape → Option Piece) (major : ℕ) (reads : Reads (λ p. stores (item_as kind p) (λ q. q.bytes)) (Content major)) where
   content_made : {B : Type 0} (f : List ℕ → Option B) (e : Piece → Refusal)
       → Reads (λ p. onward (item_as kind p) (λ s. or_refuse (f s.value.bytes) (e p) (λ y. Ok (record { value = y; size = s.size })))) (Made (Content major) f)
-  content_made f e = reads_same (reads_made reads f e) _ (λ p. onward_keeps (item_as kind p) (λ s. record { value = s.value.bytes; size = s.size }) _)
+  content_made f e = reads_same (reads_made reads f e) _ (λ p. sym (onward_keeps (item_as kind p) (λ s. record { value = s.value.bytes; size = s.size }) _))
 
   reads_string : (N least : ℕ) (e : Piece → Refusal)
       → Reads (λ p. onward (item_as kind p) (λ s. or_refuse (kept_from N least s.value.bytes) (e p) (λ y. Ok (record { value = y; size = s.size })))) (String major N least)

@@ -1,4 +1,4 @@
-use Rattle.std.specs.Prelude.{ℕ, ◌+◌, ◌/◌, ◌%◌, cond, ◌&&◌, List, length, take, drop, Some, None, Option, ◌==◌, nat_le, nat_lt, slice_index}
+use Rattle.std.specs.Prelude.{ℕ, ◌+◌, ◌/◌, ◌%◌, ◌<◌, ◌≤◌, cond, ◌&&◌, List, length, take, drop, Some, None, Option, ◌==◌, nat_le, nat_lt, slice_index}
 use Rattle.parts.specs.Numbers.{big}
 use Rattle.cbor.specs.declared.kinds.Head.{Head}
 
@@ -21,3 +21,7 @@ by_info info m =
 -- the head at the beginning of some bytes
 abbrev pub head_of : List ℕ → Option Head
 head_of m = cond (nat_lt 0 (length m)) (by_info (slice_index m 0 % 32) m) None
+
+-- a head has bytes of its own, all of them among some bytes
+abbrev pub StandsIn : List ℕ → Head → Type 0
+StandsIn m h = (0 < h.size) × (h.size ≤ length m)

@@ -1,5 +1,5 @@
-ghost use Rattle.std.specs.Prelude.{◌≡◌, ◌<◌, ◌≤◌, length, IfSome};
-ghost use Rattle.cbor.specs.Heads.{long_head, head_of};
+ghost use Rattle.std.specs.Prelude.{◌≡◌, ◌≤◌, IfSome};
+ghost use Rattle.cbor.specs.Heads.{StandsIn, long_head, head_of};
 
 use crate::kinds::Head;
 use parts::numbers::read_big;
@@ -8,7 +8,7 @@ use parts::numbers::read_big;
 fn long_head(width: usize, least: u64, bytes: &[u8]) -> Option<Head>
     requires { width ≤ 8 }
     ensures value { result ≡ long_head width least bytes.now }
-    ensures within { IfSome result (λ h. (0 < h.size) × (h.size ≤ length bytes.now)) }
+    ensures within { IfSome result (StandsIn bytes.now) }
 {
     let digits = bytes.get(1..1 + width)?;
     let argument = read_big(digits)?;
@@ -25,7 +25,7 @@ fn long_head(width: usize, least: u64, bytes: &[u8]) -> Option<Head>
 // The head at the beginning of some bytes: shortest and definite.
 pub(crate) fn head_of(bytes: &[u8]) -> Option<Head>
     ensures value { result ≡ head_of bytes.now }
-    ensures within { IfSome result (λ h. (0 < h.size) × (h.size ≤ length bytes.now)) }
+    ensures within { IfSome result (StandsIn bytes.now) }
 {
     let first = *bytes.first()?;
     let info = first % 32;

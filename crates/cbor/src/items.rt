@@ -1,7 +1,8 @@
-ghost use Rattle.std.specs.Prelude.{◌≡◌, ◌<◌, ◌≤◌, length, IfSome};
+ghost use Rattle.std.specs.Prelude.{◌≡◌, ◌<◌, length, IfSome};
 ghost use Rattle.std.specs.Option.{option_map};
 ghost use Rattle.parts.specs.Parts.{Piece, piece};
 ghost use Rattle.parts.specs.Reads.{IsWithin};
+ghost use Rattle.cbor.specs.Heads.{StandsIn};
 ghost use Rattle.cbor.specs.Items.{Shape, Holds, ChosenFrom, shape, taken, string_of, item_of, is_unsigned, is_bytes, is_text, is_array, is_map, is_tag, is_truth};
 
 use crate::heads::head_of;
@@ -82,7 +83,7 @@ fn take_string<'a, F: FnOnce(Part<'a>) -> Item<'a>>(
     kind: F,
 ) -> Option<Taken<'a>>
     requires callable { F.IsAlwaysCallable kind }
-    requires head { (0 < head.size) × (head.size ≤ length (piece part).bytes) }
+    requires head { StandsIn (piece part).bytes head }
     ensures value { (held : Piece → Shape) → Holds (F.post kind) held → option_map taken result ≡ string_of held head (piece part.entry) }
     ensures shorter { IfSome result (λ t. length (piece t.rest).bytes < length (piece part.entry).bytes) }
 {

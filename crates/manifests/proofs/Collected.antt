@@ -6,6 +6,7 @@ use Rattle.parts.specs.Parts.{Piece, after}
 use Rattle.parts.specs.declared.kinds.Read.{Read}
 use Rattle.cbor.specs.Holders.{counted_from}
 use Rattle.cbor.specs.Scalars.{Rule, stores}
+use Rattle.cbor.proofs.Strings.{onward_keeps}
 use Rattle.manifests.specs.Triples.{collects}
 
 -- what was found, by two uses in a row
@@ -17,10 +18,6 @@ keeps_twice (Err e) f g h k = refl
 pub keeps_same : {A : Type 0} (r : Outcome A) (f : A → A) → ((x : A) → f x ≡ x) → keeps r f ≡ r
 keeps_same (Ok x) f e = ap (λ y. Ok y) (e x)
 keeps_same (Err e) f k = refl
-
-pub onward_keeps : {A B C : Type 0} (r : Outcome A) (f : A → B) (k : B → Outcome C) → onward (keeps r f) k ≡ onward r (λ x. k (f x))
-onward_keeps (Ok x) f k = refl
-onward_keeps (Err e) f k = refl
 
 pub onward_same : {A B : Type 0} (r : Outcome A) (f g : A → Outcome B) → ((x : A) → f x ≡ g x) → onward r f ≡ onward r g
 onward_same (Ok x) f g e = e x

@@ -21,7 +21,8 @@ use Rattle.manifests.specs.declared.kinds.Step.{Step}
 use Rattle.manifests.specs.declared.kinds.Triple.{Triple}
 use Rattle.manifests.specs.Triples.{one, collects, reference_at, reference_record, endorsement_record, conditional_pair, section_of, element_of, triples_under, triples_of}
 use Rattle.manifests.specs.Walks.{entries_left, elements_left, left, further, array_some, ahead_of, begun, in_entry, in_record, past_element, map_step, element_step, record_step, section_step, entry_step, some, step_from}
-use Rattle.manifests.proofs.Collected.{keeps_twice, keeps_same, keeps_onward, onward_keeps, onward_same, onward_twice, grown, counted_behind, counted_view, collects_front, counted_front, front_onward}
+use Rattle.cbor.proofs.Strings.{onward_keeps}
+use Rattle.manifests.proofs.Collected.{keeps_twice, keeps_same, keeps_onward, onward_same, onward_twice, grown, counted_behind, counted_view, collects_front, counted_front, front_onward}
 
 -- a test or a choice before what is found
 

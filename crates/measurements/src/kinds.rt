@@ -30,7 +30,7 @@ pub enum Svn {
     Minimum(u64),
 }
 
-// The In.. types hold what was read so far of a map or an array.
+// The In.. types hold what was read so far of a map or an array. Each map has its own, since a type has one rule for its fields.
 
 #[derive(Clone, Copy)]
 pub struct InClass {

@@ -2,7 +2,8 @@ use claims::kinds::Environment;
 use conditions::kinds::Condition;
 use measurements::kinds::Allowed;
 
-// At most four of something, in their order. The places behind them hold a fixed filling, so equal rows are kept alike.
+// At most four of something, in their order, kept inline since the readers have no heap. The places behind them hold a fixed filling, so
+// equal rows are kept alike.
 #[derive(Clone, Copy)]
 pub struct Few<T> {
     pub(crate) count: usize,
