@@ -1,6 +1,7 @@
 use parts::kinds::Part;
 
-// The first byte's major type, the number that goes with it, and how many bytes they have.
+// The first byte's major type, the number that goes with it, and how many bytes they have. The type is a number here, as it stands in the
+// message; `Item` is the kind.
 #[derive(Clone, Copy)]
 pub struct Head {
     pub major: u8,

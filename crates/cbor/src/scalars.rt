@@ -78,6 +78,7 @@ pub fn read_array_of(part: Part<'_>, count: u64) -> Result<Read<u64>, Refusal>
 }
 
 // The content of a string, kept if it has `least` to N bytes; else the string is refused at a place.
+// `Read` is built here and not by `try_map`, as a closure whose result names N gives no proof.
 fn keep<const N: usize>(
     string: Read<Part<'_>>,
     least: usize,
@@ -92,7 +93,7 @@ fn keep<const N: usize>(
     })
 }
 
-// A text of `least` to N bytes.
+// A text of `least` to N bytes. It and `read_bytes` stay two, as a function with both a const and a closure for a parameter gives no proof.
 #[tactic(auto, using(crate::proofs::Strings::reads_text))]
 pub fn read_text<const N: usize>(part: Part<'_>, least: usize) -> Result<Read<Bytes<N>>, Refusal>
     ensures value { result ≡ text_at N least (piece part.entry) }
@@ -122,7 +123,7 @@ pub fn read_tag(part: Part<'_>) -> Result<Read<u64>, Refusal>
     take_as(part, Item::tag).ok_or(Refusal::Malformed(part.place()))
 }
 
-// A tag around a string of `least` to N bytes: one item, whose place is that of the tag.
+// A tag around a string of `least` to N bytes: one item, whose place is that of the tag. Which tag is a number, as any of 2^64 may be asked for.
 #[tactic(auto, using(crate::proofs::Tags::reads_tagged_bytes))]
 pub fn read_tagged_bytes<const N: usize>(
     part: Part<'_>,

@@ -35,7 +35,7 @@ impl<const N: usize> Bytes<N> {
         &all[..self.len.min(all.len())]
     }
 
-    // Whether both hold the same bytes.
+    // Whether both hold the same bytes, by the derived `==`; it stays for the laws it names.
     pub fn is_same(&self, other: &Bytes<N>) -> bool
         ensures value { result ≡ same self.now other.now }
         ensures law { (xs ys : List ℕ) → self.now ≡ bounded N xs → other.now ≡ bounded N ys → Decides result (xs ≡ ys) }

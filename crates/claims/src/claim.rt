@@ -12,7 +12,7 @@ impl Claim {
         self.environment.has_field() && self.values.has_value()
     }
 
-    // Whether both are the same claim.
+    // Whether both are the same claim, by the derived `==`; it stays for the laws it names.
     pub fn is_same(&self, other: &Claim) -> bool
         ensures value { result ≡ same_claim self.now other.now }
         ensures alike { Decides result (self.now ≡ other.now) }

@@ -58,7 +58,8 @@ impl Digests {
             }),
         }
     }
-    // Whether both have the same digests.
+
+    // Whether both have the same digests, by the derived `==`; it stays for the laws it names.
     pub fn is_same(&self, other: &Digests) -> bool
         ensures { result ≡ same_digests self.now other.now }
     {

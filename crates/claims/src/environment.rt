@@ -17,7 +17,7 @@ impl Environment {
             || self.instance.is_some()
     }
 
-    // Whether both are the same environment.
+    // Whether both are the same environment, by the derived `==`; it stays for the laws it names.
     pub fn is_same(&self, other: &Environment) -> bool
         ensures { result ≡ same_environment self.now other.now }
     {

@@ -12,7 +12,7 @@ pub(crate) fn has_flag(flags: &Flags) -> bool
 }
 
 impl Flags {
-    // Whether both have the same flags.
+    // Whether both have the same flags, by the derived `==`; it stays for the laws it names.
     pub fn is_same(&self, other: &Flags) -> bool
         ensures { result ≡ same_flags self.now.states other.now.states }
     {

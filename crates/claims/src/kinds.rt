@@ -1,4 +1,5 @@
 // A byte string of at most N bytes, kept by value. The places past its length hold 0, so equal bytes are kept alike.
+// A length beside an array, as a claim lives in fixed memory and is copied into a table.
 #[derive(Clone, Copy, PartialEq, Eq)]
 pub struct Bytes<const N: usize> {
     pub(crate) len: usize,

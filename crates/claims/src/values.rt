@@ -18,7 +18,7 @@ impl Values {
             || self.raw.is_some()
     }
 
-    // Whether both are the same values.
+    // Whether both are the same values, by the derived `==`; it stays for the laws it names.
     pub fn is_same(&self, other: &Values) -> bool
         ensures { result ≡ same_values self.now other.now }
     {

@@ -1,6 +1,7 @@
 use parts::kinds::Part;
 
-// The tag of an item by its first byte, how many bytes its tag and length have, and how many its content has.
+// The tag of an item by its first byte, how many bytes its tag and length have, and how many its content has. The tag is a number here, as it
+// stands in the message; `Item` is the kind.
 #[derive(Clone, Copy)]
 pub struct Head {
     pub tag: u8,

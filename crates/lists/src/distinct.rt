@@ -8,6 +8,7 @@ use crate::once::store_once;
 use crate::stored::Stored;
 
 // A list in lent memory: its elements are the first `count`, and no two of them are the same.
+// A count beside a slice, as the memory is lent and never grows.
 #[derive(Drop)]
 pub struct Distinct<'a, E> {
     pub(crate) places: &'a mut [E],

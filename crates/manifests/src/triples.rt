@@ -83,7 +83,7 @@ pub(crate) fn read_conditional(part: Part<'_>, signer: u64) -> Result<Read<Tripl
     Ok(triple.behind(conditions.size).behind(head.size))
 }
 
-// What stands under a key of a manifest, if something may; the caller refuses another key at its place.
+// What stands under a key of a manifest, if something may; the caller refuses another key at its place, so this gives an Option and no error.
 pub(crate) fn section_of(key: u64) -> Option<Section>
     ensures { result ≡ section_of key }
 {

@@ -76,7 +76,7 @@ impl<'a> Walk<'a> {
         walk.next_map()
     }
 
-    // The first triple of the next element.
+    // The first triple of the next element. A match on the section, as one of the three has a step of its own.
     fn next_element(self) -> Result<Step, Refusal>
         ensures value { result ≡ section_step self.entry.cursor.section self.entry.cursor self.entry.message.now }
         ensures within { IfOk result (GoesOn self.entry.cursor self.entry.message.now) }

@@ -3,6 +3,7 @@ use claims::kinds::{Bytes, Digests, Environment, Flags};
 use conditions::kinds::Wanted;
 
 // What a measurement map may carry only where it is a condition: listed authorities, and a minimum in place of an svn.
+// Two truth values, as these are two permissions, and a holder may give either without the other.
 #[derive(Clone, Copy)]
 pub struct Allowed {
     pub authorities: bool,

@@ -10,7 +10,7 @@ use cbor::scalars::{read_number_to, read_tag};
 use parts::kinds::{Part, Read};
 use refusals::Refusal;
 
-// Whether a tag may stand before an svn.
+// Whether a tag may stand before an svn. It is a number here, as it stands in the message; `Svn` is the kind.
 fn is_svn_tag(tag: u64, minimum: bool) -> bool
     ensures { result ≡ svn_tag minimum tag }
 {

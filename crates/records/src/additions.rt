@@ -22,6 +22,7 @@ pub fn additions_of(found: &Few<Condition>) -> Few<Claim>
     ensures { result ≡ additions_of found.now }
 {
     let mut claims = Few::new(Claim::NONE);
+    // A loop, as the fold over the same elements was tried and gave no proof.
     for condition in found.as_slice() {
         claims = claims.with(claim_of(condition));
     }

@@ -38,7 +38,7 @@ impl<F: Format> fmt::Display for Reading<'_, F> {
         };
         write!(f, "read: {count} claims")?;
         for n in 0..count {
-            // Each number below the count has a claim.
+            // A format gives its claims by number, and each number below the count has one.
             let Ok(claim) = self.format.claim(self.message, n) else {
                 unreachable!();
             };

@@ -17,7 +17,7 @@ pub struct Spdm {
     ghost ok: { Holds 1 setup.class },
 }
 
-// A measurement block, taken apart; its value is a part of the message.
+// A measurement block, taken apart; its value is a part of the message. Its type is a number here, as it stands in the message.
 #[derive(Clone, Copy)]
 pub struct BlockRef<'a> {
     pub index: u8,

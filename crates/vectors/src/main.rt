@@ -24,6 +24,7 @@ fn item_of(bytes: &[u8]) -> Option<Expected>
 
 // Prints the cases that differ, and how many agree.
 fn main(rt: HostRuntime) -> anyhow::Result<()> {
+    // Counted in the loop that prints, as an adapter that prints would hide it.
     let mut agree: usize = 0;
     for (number, case) in CASES.iter().enumerate() {
         let found = item_of(case.bytes);
