@@ -20,6 +20,7 @@ impl TryFrom<u8> for Field {
 
     ghost try_from_gives = { IsTagged };
 
+    // The one place where a tag of a boot record is a number.
     fn try_from(tag: u8) -> Result<Field, UnknownTag> {
         match tag {
             0x80 => Ok(Field::Vendor),
@@ -74,6 +75,7 @@ impl Elements for Fields {
     fn read_element(self, part: Part<'_>) -> Result<Read<Fields>, Refusal> {
         let at = part.place();
         let taken = take_item(part).ok_or(Refusal::Malformed(at))?;
+        // A pattern, as it takes both values of the case.
         let Item::Field(tag, content) = taken.item else {
             return Err(Refusal::Unknown(at));
         };

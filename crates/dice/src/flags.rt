@@ -27,7 +27,7 @@ fn flag_of(content: &[u8], k: usize) -> Option<bool>
     Some(!set)
 }
 
-// The flags of a content of bits.
+// The flags of a content of bits. Four calls by name, as four of ten places is no loop and no map of an array.
 fn flags_of(content: &[u8]) -> Flags
     ensures { result ≡ flags_of content.now }
 {

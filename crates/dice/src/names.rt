@@ -15,7 +15,7 @@ pub(crate) fn extension_of(name: &[u8]) -> Extension
     }
 }
 
-// The hash algorithm of an object identifier.
+// The hash algorithm of an object identifier. A table of its own: with other tables it shares the shape of a match, and no row.
 pub(crate) fn algorithm_named(name: &[u8]) -> Option<Algorithm>
     ensures { result ≡ algorithm_named name.now }
 {

@@ -43,11 +43,11 @@ pub struct Cursor {
     pub(crate) maps: u64,
 }
 
-// A walk over the triples of a message: the message, and where the walk stands.
+// A walk over the triples of a message: the message, and where the walk stands. Whoever holds a cursor may go on from it in any message.
 #[derive(Clone, Copy)]
 pub struct Walk<'a> {
-    pub(crate) message: &'a [u8],
-    pub(crate) cursor: Cursor,
+    pub message: &'a [u8],
+    pub cursor: Cursor,
 }
 
 // The next triple, and where the walk stands behind it.

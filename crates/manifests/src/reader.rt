@@ -19,6 +19,7 @@ fn pick_triple(signer: u64, message: &[u8], wanted: usize) -> Result<Pick<Triple
         seen: 0,
         kept: None,
     };
+    // A walk may refuse and go on asking, so it is no iterator.
     while let Some(triple) = walk.next()? {
         pick = pick.note(wanted, triple);
     }

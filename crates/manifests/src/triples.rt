@@ -84,6 +84,7 @@ pub(crate) fn read_conditional(part: Part<'_>, signer: u64) -> Result<Read<Tripl
 }
 
 // What stands under a key of a manifest, if something may; the caller refuses another key at its place, so this gives an Option and no error.
+// A table of its own: with other tables it shares the shape of a match, and no row.
 pub(crate) fn section_of(key: u64) -> Option<Section>
     ensures { result ≡ section_of key }
 {

@@ -145,7 +145,7 @@ impl<'a> Walk<'a> {
     }
 
     // The next triple, behind which the walk then stands; none at the end of the message. Where there is none, or a refusal, it stays; so it
-    // is no Iterator, which would have to end behind a refusal.
+    // is no Iterator, which would have to end behind a refusal. The `let .. else` stands as a closure of `map` cannot move the walk it is called on.
     #[tactic(auto, using(crate::proofs::Limits::walked_whole))]
     pub fn next(&mut self) -> Result<Option<Triple>, Refusal>
         ensures value { result ≡ keeps (step_from self.old.cursor self.old.message.now) triple_of }

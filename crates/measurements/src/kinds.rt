@@ -64,6 +64,7 @@ pub struct InAuthorities {
     pub listed: Authorities,
 }
 
+// `minimum` is a permission with no value beside it.
 #[derive(Clone, Copy)]
 pub struct InValues {
     pub minimum: bool,

@@ -17,7 +17,7 @@ fn is_svn_tag(tag: u64, minimum: bool) -> bool
     tag == 552 || (minimum && tag == 553)
 }
 
-// The svn of a number behind a tag.
+// The svn of a number behind a tag, which the check above let through.
 fn svn_under(tag: u64, number: u64) -> Svn
     ensures { result ≡ svn_under tag number }
 {
@@ -28,7 +28,7 @@ fn svn_under(tag: u64, number: u64) -> Svn
     }
 }
 
-// A tag and its number: one item, whose place is that of the tag.
+// A tag and its number: one item, whose place is that of the tag. `minimum`, here and below, is a permission with no value beside it.
 fn read_tagged_svn(part: Part<'_>, minimum: bool) -> Result<Read<Svn>, Refusal>
     ensures value { result ≡ tagged_svn minimum (piece part.entry) }
     ensures within { TakenFrom (piece part.entry) result }

@@ -35,6 +35,7 @@ pub fn push_answer(out: &mut String, command: &Command) -> Result<(), AllocError
 pub fn answer(heap: Global, line: &[u8]) -> Result<Option<String>, Complaint>
     ensures { Tells (option_map string_bytes) result (line_answer line.now) }
 {
+    // No `map`, as its closure would give a Result inside the Option.
     let Some(command) = parse(heap, line)? else {
         return Ok(None);
     };

@@ -1,5 +1,4 @@
 use Rattle.std.proofs.Common.{◌≡◌, ℕ, zero, suc, ◌+◌, ◌<◌, ◌≤◌, min, Bool, true, false, cond, eqb, List, [], ◌∷◌, ◌++◌, length, drop, Some, None, Ok, Err, Option, sym, refl, ap, ◌∙◌, append_assoc, arith}
-use Rattle.std.specs.List.{slice_get}
 use Rattle.std.proofs.lemmas.List.{append-nil, length_push}
 use Rattle.std.proofs.lemmas.Bool.Decides.{nat_tests}
 use Rattle.refusals.specs.Reading.{Outcome, onward, keeps}
@@ -8,6 +7,7 @@ use Rattle.evidence.specs.Readings.{Reading}
 use Rattle.parts.specs.Holders.{elements, elements_in}
 use Rattle.parts.specs.Parts.{Piece, after, whole_of}
 use Rattle.parts.specs.Picks.{picked, noted}
+use Rattle.parts.proofs.Noted.{picked_more}
 use Rattle.parts.specs.declared.kinds.Pick.{Pick}
 use Rattle.parts.specs.declared.kinds.Read.{Read}
 use Rattle.spdm.specs.declared.kinds.Setup.{Setup}
@@ -20,17 +20,6 @@ use Rattle.spdm.specs.Told.{entry_fits}
 abbrev pub noted_all : ℕ → Pick Claim → List Claim → Pick Claim
 noted_all w p [] = p
 noted_all w p (c ∷ cs) = noted_all w (noted w p c) cs
-
-nth_push : (cs : List Claim) (c : Claim) (n : ℕ) → cond (eqb (length cs) n) (Some c) (slice_get cs n) ≡ slice_get (cs ++ c ∷ []) n
-nth_push [] c zero = refl
-nth_push [] c (suc n) = grind (arith, nat_tests)
-nth_push (x ∷ xs) c zero = grind (arith, nat_tests)
-nth_push (x ∷ xs) c (suc n) = let e = nth_push xs c n in grind (arith, nat_tests)
-
-picked_more : (w : ℕ) (cs : List Claim) (c : Claim) → length cs < 18446744073709551615 → noted w (picked w cs) c ≡ picked w (cs ++ c ∷ [])
-picked_more w cs c few =
-    let n : min (length cs + 1) 18446744073709551615 ≡ length cs + 1 = omega arith in
-    rw (n, length_push cs c, nth_push cs c w)
 
 picked_all : (w : ℕ) (done cs : List Claim) → length done + length cs ≤ 18446744073709551615 → noted_all w (picked w done) cs ≡ picked w (done ++ cs)
 picked_all w done [] few = ap (picked w) (sym (append-nil done))

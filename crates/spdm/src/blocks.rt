@@ -57,7 +57,7 @@ fn svn_of(value: &[u8]) -> Option<u64>
     Some(svn)
 }
 
-// What a value says by its type.
+// What a value says by its type, which is a number here as it stands in the message.
 fn values_of(algorithm: Algorithm, kind: u8, value: &[u8]) -> Option<Values>
     ensures { result ≡ values_of algorithm kind value.now }
 {
