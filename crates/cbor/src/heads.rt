@@ -32,7 +32,7 @@ pub(crate) fn head_of(bytes: &[u8]) -> Option<Head>
     if info < 24 {
         return Some(Head {
             major: first / 32,
-            argument: info as u64,
+            argument: u64::from(info),
             size: 1,
         });
     }

@@ -14,7 +14,8 @@ use parts::kinds::{Part, Read};
 use refusals::Refusal;
 use refusals::reading::rises;
 
-// The fields of a map: each value is read under its key, and joins what was read before it.
+// The fields of a map: each value is read under its key, and joins what was read before it. A key, its place and what follows it go together
+// in this one call.
 pub trait Fields: Copy {
     ghost under: { Self → ℕ → ℕ → Piece → Answer (Taking Self) Turned };
 
@@ -33,6 +34,7 @@ fn read_counted<E: Elements>(part: Part<'_>, head: Read<u64>, start: E) -> Resul
         value: start,
         size: head.size,
     };
+    // As often as the message says; no index is used.
     for _ in 0..head.value {
         let element = found.value.read_element(part.after(found.size))?;
         found = element.behind(found.size);

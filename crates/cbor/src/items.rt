@@ -1,16 +1,18 @@
-ghost use Rattle.std.specs.Prelude.{◌≡◌, ◌<◌, length, IfSome};
-ghost use Rattle.std.specs.Option.{option_map};
+ghost use Rattle.std.specs.Prelude.{◌≡◌, ◌<◌, Option, length, IfSome};
 ghost use Rattle.parts.specs.Parts.{Piece, piece};
-ghost use Rattle.parts.specs.Reads.{IsWithin};
+ghost use Rattle.std.specs.Option.{option_map, ok_or};
+ghost use Rattle.refusals.specs.declared.Refusal.TheVariants.{Malformed};
+ghost use Rattle.parts.specs.Reads.{IsWithin, TakenFrom};
 ghost use Rattle.cbor.specs.Heads.{StandsIn};
 ghost use Rattle.cbor.specs.Items.{Shape, Holds, ChosenFrom, shape, taken, string_of, item_of, is_unsigned, is_bytes, is_text, is_array, is_map, is_tag, is_truth};
 
 use crate::heads::head_of;
 use crate::kinds::{Head, Item, Taken};
 use parts::kinds::{Part, Read};
+use refusals::Refusal;
 
 impl<'a> Item<'a> {
-    // What an item holds, if it is of a kind.
+    // What an item holds, if it is of a kind. One for each kind, as a call cannot name a case.
 
     pub fn unsigned(self) -> Option<u64>
         ensures { result ≡ is_unsigned (shape self.entry) }
@@ -98,7 +100,8 @@ fn take_string<'a, F: FnOnce(Part<'a>) -> Item<'a>>(
     })
 }
 
-// The first item of a part, where a whole one stands there, and what follows it.
+// The first item of a part, where a whole one stands there, and what follows it. That this is shorter ties it to the part, which no type of
+// the result alone can say.
 pub fn take_item(part: Part<'_>) -> Option<Taken<'_>>
     ensures value { option_map taken result ≡ item_of (piece part.entry) }
     ensures shorter { IfSome result (λ t. length (piece t.rest).bytes < length (piece part.entry).bytes) }
@@ -129,7 +132,19 @@ pub fn take_as<'a, T, F: FnOnce(Item<'a>) -> Option<T>>(part: Part<'a>, kind: F)
     let taken = take_item(part)?;
     let item = Read {
         value: taken.item,
-        size: part.bytes().len() - taken.rest.bytes().len(),
+        size: part.before(taken.rest),
     };
     item.try_map(kind)
+}
+
+// What the first item of a part holds, if it is of a kind; any other is refused at its place.
+pub fn read_as<'a, T, F: FnOnce(Item<'a>) -> Option<T>>(
+    part: Part<'a>,
+    kind: F,
+) -> Result<Read<T>, Refusal>
+    requires { F.IsAlwaysCallable kind }
+    ensures value { (taken : Option (Read T)) × ChosenFrom (F.post kind) (piece part.entry) taken × (result ≡ ok_or taken (Malformed (piece part.entry).at)) }
+    ensures within { TakenFrom (piece part.entry) result }
+{
+    take_as(part, kind).ok_or(Refusal::Malformed(part.place()))
 }

@@ -21,7 +21,8 @@ pub enum Item<'a> {
     Truth(bool),
 }
 
-// The first item of a part, and what follows it.
+// The first item of a part, and what follows it. Its own and not one over the kind of item (`Taken<'a, Item<'a>>`), which at each use would
+// be longer than these two fields.
 #[derive(Clone, Copy)]
 pub struct Taken<'a> {
     pub item: Item<'a>,

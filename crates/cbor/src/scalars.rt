@@ -8,7 +8,7 @@ ghost use Rattle.cbor.specs.Encodes.{Headed, Number, Truth, String, Tagged};
 ghost use Rattle.cbor.specs.Reads.{Reads};
 ghost use Rattle.cbor.specs.Scalars.{number_at, number_to, truth_at, array_at, map_at, array_of, text_at, bytes_at, tag_at, tagged_bytes};
 
-use crate::items::take_as;
+use crate::items::{read_as, take_as};
 use crate::kinds::Item;
 use claims::kinds::Bytes;
 use parts::kinds::{Part, Read};
@@ -21,7 +21,7 @@ pub fn read_number(part: Part<'_>) -> Result<Read<u64>, Refusal>
     ensures within { TakenFrom (piece part.entry) result }
     ensures grammar { Reads number_at (Headed 0) }
 {
-    take_as(part, Item::unsigned).ok_or(Refusal::Malformed(part.place()))
+    read_as(part, Item::unsigned)
 }
 
 // True or false.
@@ -31,7 +31,7 @@ pub fn read_truth(part: Part<'_>) -> Result<Read<bool>, Refusal>
     ensures within { TakenFrom (piece part.entry) result }
     ensures grammar { Reads truth_at Truth }
 {
-    take_as(part, Item::truth).ok_or(Refusal::Malformed(part.place()))
+    read_as(part, Item::truth)
 }
 
 // The head of an array: the number of its elements.
@@ -39,7 +39,7 @@ pub fn read_array(part: Part<'_>) -> Result<Read<u64>, Refusal>
     ensures value { result ≡ array_at (piece part.entry) }
     ensures within { TakenFrom (piece part.entry) result }
 {
-    take_as(part, Item::array).ok_or(Refusal::Malformed(part.place()))
+    read_as(part, Item::array)
 }
 
 // The head of a map: the number of its entries.
@@ -47,7 +47,7 @@ pub fn read_map(part: Part<'_>) -> Result<Read<u64>, Refusal>
     ensures value { result ≡ map_at (piece part.entry) }
     ensures within { TakenFrom (piece part.entry) result }
 {
-    take_as(part, Item::map).ok_or(Refusal::Malformed(part.place()))
+    read_as(part, Item::map)
 }
 
 // A number of at most `most`.
@@ -100,7 +100,7 @@ pub fn read_text<const N: usize>(part: Part<'_>, least: usize) -> Result<Read<By
     ensures within { TakenFrom (piece part.entry) result }
     ensures grammar { Reads (text_at N least) (String 3 N least) }
 {
-    let text = take_as(part, Item::text).ok_or(Refusal::Malformed(part.place()))?;
+    let text = read_as(part, Item::text)?;
     keep(text, least, part.place())
 }
 
@@ -111,7 +111,7 @@ pub fn read_bytes<const N: usize>(part: Part<'_>, least: usize) -> Result<Read<B
     ensures within { TakenFrom (piece part.entry) result }
     ensures grammar { Reads (bytes_at N least) (String 2 N least) }
 {
-    let string = take_as(part, Item::bytes).ok_or(Refusal::Malformed(part.place()))?;
+    let string = read_as(part, Item::bytes)?;
     keep(string, least, part.place())
 }
 
@@ -120,7 +120,7 @@ pub fn read_tag(part: Part<'_>) -> Result<Read<u64>, Refusal>
     ensures value { result ≡ tag_at (piece part.entry) }
     ensures within { TakenFrom (piece part.entry) result }
 {
-    take_as(part, Item::tag).ok_or(Refusal::Malformed(part.place()))
+    read_as(part, Item::tag)
 }
 
 // A tag around a string of `least` to N bytes: one item, whose place is that of the tag. Which tag is a number, as any of 2^64 may be asked for.

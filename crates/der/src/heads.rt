@@ -76,10 +76,10 @@ fn size_of(bytes: &[u8]) -> Option<Size>
     if first < 128 {
         return Some(Size {
             width: 1,
-            size: first as usize,
+            size: usize::from(first),
         });
     }
-    long_size((first - 128) as usize, tail(bytes, 1))
+    long_size(usize::from(first - 128), tail(bytes, 1))
 }
 
 // The item at the beginning of some bytes, where a whole one stands there.

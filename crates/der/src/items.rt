@@ -10,7 +10,7 @@ use crate::kinds::{Held, Item, Kind, Taken};
 use parts::kinds::Part;
 use refusals::Refusal;
 
-// An item by its tag.
+// An item by its tag: the one place where a tag of an item is a number.
 fn item_of(tag: u8, content: Part<'_>) -> Item<'_>
     ensures { shape result ≡ shape_of tag (piece content.entry) }
 {

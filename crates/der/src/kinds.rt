@@ -26,7 +26,7 @@ pub enum Item<'a> {
     Field(u8, Part<'a>),
 }
 
-// A kind of item that is known by its content alone.
+// A kind of item that is known by its content alone. An enum and no closure for each, as one match says all of them.
 #[derive(Clone, Copy, PartialEq, Eq, Debug)]
 pub enum Kind {
     Boolean,
@@ -35,7 +35,8 @@ pub enum Kind {
     Sequence,
 }
 
-// The first item of a part, and what follows it.
+// The first item of a part, and what follows it. Its own and not one over the kind of item (`Taken<'a, Item<'a>>`), which at each use would
+// be longer than these two fields.
 #[derive(Clone, Copy)]
 pub struct Taken<'a> {
     pub item: Item<'a>,

@@ -31,7 +31,7 @@ pub enum Extension {
     Other,
 }
 
-// The digests so far.
+// The digests so far. A type of its own, as a type has one rule for its elements.
 #[derive(Clone, Copy)]
 pub struct Gathered {
     pub digests: Digests,

@@ -14,7 +14,7 @@ pub trait Format {
     fn count(&self, message: &[u8]) -> Result<usize, Refusal>
         ensures { result ≡ counted (reads self.now message.now) };
 
-    // The claim of a number, from 0.
+    // The claim of a number, from 0. A message and a question about it, which are two things.
     fn claim(&self, message: &[u8], n: usize) -> Result<Claim, Refusal>
         ensures { result ≡ claim_at (reads self.now message.now) n };
 

@@ -8,7 +8,7 @@ pub trait Meets<Q> {
         ensures { result ≡ meets self.now question.now };
 }
 
-// What can tell sameness: everything is the same as itself, in either order, and what is the same as a third is the same.
+// What can tell sameness, which is no `Eq`, as what is the same need not be equal: everything is the same as itself, in either order, and what is the same as a third is the same.
 pub trait Same {
     ghost same: { Self → Self → Bool };
 

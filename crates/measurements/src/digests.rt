@@ -5,7 +5,7 @@ ghost use Rattle.measurements.specs.Digests.{algorithm_at, digest_bytes, digest_
 
 use crate::kinds::InDigests;
 use cbor::holders::read_array_by;
-use cbor::items::take_as;
+use cbor::items::read_as;
 use cbor::kinds::Item;
 use cbor::scalars::{read_array_of, read_number};
 use claims::kinds::{Algorithm, Digests};
@@ -38,8 +38,7 @@ fn read_digest(
     ensures value { result ≡ digest_bytes digests algorithm (piece part.entry) }
     ensures within { TakenFrom (piece part.entry) result }
 {
-    take_as(part, Item::bytes)
-        .ok_or(Refusal::Malformed(part.place()))?
+    read_as(part, Item::bytes)?
         .try_map(|content| digests.with(algorithm, content.bytes()))
         .ok_or(Refusal::OutOfLimits(part.place()))
 }

@@ -4,7 +4,7 @@ use Rattle.std.proofs.lemmas.List.{length_push}
 use Rattle.std.proofs.lemmas.Bool.Decides.{nat_tests}
 use Rattle.parts.specs.Picks.{picked, noted}
 
-nth_push : {T : Type 0} (xs : List T) (x : T) (n : ℕ) → cond (eqb (length xs) n) (Some x) (slice_get xs n) ≡ slice_get (xs ++ x ∷ []) n
+pub nth_push : {T : Type 0} (xs : List T) (x : T) (n : ℕ) → cond (eqb (length xs) n) (Some x) (slice_get xs n) ≡ slice_get (xs ++ x ∷ []) n
 nth_push [] x zero = refl
 nth_push [] x (suc n) = grind (arith, nat_tests)
 nth_push (y ∷ ys) x zero = grind (arith, nat_tests)

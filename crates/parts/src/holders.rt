@@ -23,6 +23,7 @@ pub fn read_elements<E: Elements>(part: Part<'_>, start: E) -> Result<E, Refusal
 {
     let mut found = start;
     let mut rest = part;
+    // How far an element goes is known when it was read, so this is no iterator.
     while !rest.is_empty() {
         let element = found.read_element(rest)?;
         found = element.value;

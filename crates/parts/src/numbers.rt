@@ -7,6 +7,7 @@ fn big_endian(bytes: &[u8]) -> u64
     ensures { result ≡ big bytes.now }
 {
     let mut n: u64 = 0;
+    // A cast, as the bound of the sum is proved of the byte itself.
     for b in bytes {
         n = n * 256 + *b as u64;
     }

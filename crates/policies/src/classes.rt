@@ -7,8 +7,8 @@ use claims::kinds::Environment;
 pub fn class_of(environment: &Environment) -> &[u8]
     ensures { result.now ≡ class_of environment.now }
 {
-    match &environment.class {
-        Some(class) => class.as_slice(),
-        None => b"",
-    }
+    environment
+        .class
+        .as_ref()
+        .map_or(b"", |class| class.as_slice())
 }

@@ -48,7 +48,7 @@ pub enum Layer {
 }
 
 impl Refusal {
-    // The refusal's number, 1 to 12, in the order of checking.
+    // The refusal's number, 1 to 12, in the order of checking. A method and no `From`, as a refusal has two numbers, its own and its place.
     pub fn number(self) -> u8
         ensures { result ≡ number self }
     {

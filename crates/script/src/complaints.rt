@@ -40,7 +40,7 @@ impl<T: Drop> From<AllocFailed<T>> for Complaint {
 }
 
 impl Complaint {
-    // What the complaint says.
+    // What the complaint says, which is what it prints.
     pub fn text(self) -> &'static str
         ensures { result.now ≡ complaint_text self }
     {

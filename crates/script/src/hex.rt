@@ -82,7 +82,7 @@ impl fmt::Display for Hex<'_> {
     }
 }
 
-// Appends the word for bytes: two digits a byte, or `-` for no bytes.
+// Appends the word for bytes: two digits a byte, or `-` for no bytes. One `write!` of what prints, as all `push_` functions are.
 pub fn push_hex(out: &mut String, bytes: &[u8]) -> Result<(), AllocError>
     ensures { Appends result (string_bytes out.old) (string_bytes out.new) (hex_text bytes.now) }
 {

@@ -33,7 +33,7 @@ impl<'a> Words<'a> {
         Words { rest: Some(line) }
     }
 
-    // The next word, if one is left.
+    // The next word, if one is left. Here and below `left` ties what is left to what was, which the result alone cannot say.
     pub(crate) fn next_word(&mut self) -> Option<&'a [u8]>
         ensures first { MatchOption result (self.old ≡ []) (λ word. self.old ≡ word.now ∷ self.new) }
         ensures left { self.new ≡ drop 1 self.old }

@@ -14,7 +14,7 @@ use spdm::kinds::Spdm;
 use std::alloc::{AllocError, Global};
 use text::refusal::push_refusal;
 
-// Appends the answer to a command.
+// Appends the answer to a command, which is one `write!` of what prints.
 pub fn push_answer(out: &mut String, command: &Command) -> Result<(), AllocError>
     ensures { Appends result (string_bytes out.old) (string_bytes out.new) (answer_of (spoken command.now)) }
 {

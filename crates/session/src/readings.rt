@@ -48,7 +48,7 @@ impl<F: Format> fmt::Display for Reading<'_, F> {
     }
 }
 
-// Appends what comes of reading a message: how many claims it has, and each of them; or the refusal.
+// Appends what comes of reading a message: how many claims it has, and each of them; or the refusal. One `write!` of what prints.
 pub fn push_reading<F: Format>(
     out: &mut String,
     format: &F,

@@ -1,13 +1,12 @@
 use Rattle.std.specs.Prelude.{◌≡◌, ℕ, zero, suc, ◌+◌, ◌-◌, ◌<◌, ◌≤◌, cond, List, [], ◌∷◌, ◌++◌, length, drop, Some, None, Ok, Err, Option, ◌==◌, refl}
 use Rattle.std.proofs.Common.{sym, ap, ◌∙◌, append_assoc, arith}
-use Rattle.std.specs.List.{slice_get}
 use Rattle.std.proofs.lemmas.List.{append-nil, drop-drop, length-drop, length_push}
-use Rattle.std.proofs.lemmas.Bool.Decides.{nat_tests}
 use Rattle.refusals.specs.declared.Refusal.{Refusal}
 use Rattle.refusals.specs.Reading.{onward, keeps}
 use Rattle.claims.specs.declared.kinds.Claim.{Claim}
 use Rattle.evidence.specs.Readings.{Reading}
 use Rattle.parts.specs.Picks.{picked}
+use Rattle.parts.proofs.Noted.{nth_push}
 use Rattle.parts.specs.declared.kinds.Pick.{Pick}
 use Rattle.spdm.specs.declared.kinds.Setup.{Setup}
 use Rattle.spdm.specs.declared.kinds.Entry.{Entry}
@@ -17,12 +16,6 @@ use Rattle.spdm.specs.Walks.{row_more, row_none}
 -- one claim more, counted with no bound
 abbrev pub noted : ℕ → Pick Claim → Claim → Pick Claim
 noted wanted p c = record { seen = p.seen + 1; kept = cond (p.seen == wanted) (Some c) p.kept }
-
-nth_push : (cs : List Claim) (c : Claim) (n : ℕ) → cond (length cs == n) (Some c) (slice_get cs n) ≡ slice_get (cs ++ c ∷ []) n
-nth_push [] c zero = refl
-nth_push [] c (suc n) = grind (arith, nat_tests)
-nth_push (x ∷ xs) c zero = grind (arith, nat_tests)
-nth_push (x ∷ xs) c (suc n) = let e = nth_push xs c n in grind (arith, nat_tests)
 
 pub picked_more : (wanted : ℕ) (cs : List Claim) (c : Claim) → noted wanted (picked wanted cs) c ≡ picked wanted (cs ++ c ∷ [])
 picked_more wanted cs c = rw (length_push cs c, nth_push cs c wanted)

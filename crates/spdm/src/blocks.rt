@@ -47,6 +47,7 @@ fn first_block(bytes: &[u8]) -> Option<BlockRef<'_>>
 fn svn_of(value: &[u8]) -> Option<u64>
     ensures { result ≡ svn_of value.now }
 {
+    // A pattern, as it names the eight bytes that the number is made of; with `try_from` in its place the proof did not close.
     let [a, b, c, d, e, f, g, h] = value else {
         return None;
     };

@@ -120,7 +120,7 @@ impl fmt::Display for ClaimText<'_> {
     }
 }
 
-// Appends the fields of a claim that are there, each after a space.
+// Appends the fields of a claim that are there, each after a space. One `write!` of what prints.
 pub fn push_claim(out: &mut String, claim: &Claim) -> Result<(), AllocError>
     ensures { Appends result (string_bytes out.old) (string_bytes out.new) (claim_text claim.now) }
 {
