@@ -1,4 +1,6 @@
-use Rattle.std.proofs.Common.{◌≡◌, ℕ, ◌%◌, Bool, true, false, List, Some, Err, ◌≢◌, sym, refl, ap, ◌∙◌}
+use Rattle.std.proofs.Common.{◌≡◌, ℕ, ◌%◌, Bool, true, false, List, Some, Ok, Err, Option, Result, ◌≢◌, sym, refl, ap, ◌∙◌, arith}
+use Rattle.std.specs.Option.{ok_or}
+use Rattle.std.specs.Result.{result_ok}
 use Rattle.std.proofs.lemmas.Bool.{cond-false, ne_eqb}
 use Rattle.refusals.specs.Reading.{Outcome, keeps, need, above}
 use Rattle.refusals.specs.declared.Refusal.{Refusal}
@@ -6,10 +8,11 @@ use Rattle.refusals.specs.declared.Refusal.TheVariants.{Unknown}
 use Rattle.claims.specs.declared.kinds.Claim.{Claim}
 use Rattle.parts.specs.Parts.{Piece}
 use Rattle.der.specs.Items.{Front, field, item_of}
-use Rattle.dice.specs.Fields.{tag_of, formed, of_values, in_environment, field_says, field_at}
+use Rattle.dice.specs.Fields.{tag_of, IsTagged, formed, of_values, in_environment, field_says, field_at}
 use Rattle.dice.specs.declared.kinds.Field.{Field}
 use Rattle.dice.specs.declared.kinds.Field.TheVariants.{Vendor, Model, Version, Svn, Layer, Index, Digests, Flags, Raw, Class}
 use Rattle.dice.specs.declared.kinds.Fields.{Fields}
+use Rattle.dice.specs.declared.kinds.UnknownTag.{UnknownTag}
 
 -- a tag that is none of a field's
 abbrev pub IsUnknown : ℕ → Type 0
@@ -57,3 +60,12 @@ pub unknown_field : (s : Fields) (p : Piece) (f : Front) (tag : ℕ) (q : Piece)
 unknown_field s p f tag q e i h =
     rw (e, i, unknown_formed tag h q.bytes)
     (either (above s.last (tag % 32)) (Unknown p.at) _ (rw (unknown_says tag h s.claim p.at q) refl))
+
+-- what a conversion that found a field, or none, tells of the tag
+pub tag_found : (tag : ℕ) (r : Result Field UnknownTag) (o : Option Field) (e : Refusal) (f : Field) → IsTagged tag r → o ≡ result_ok r → Ok f ≡ ok_or o e → tag_of f ≡ tag
+tag_found tag (Ok g) o e f h k l = let same : f ≡ g = grind arith in ap tag_of same ∙ h
+tag_found tag (Err x) o e f h k l = absurd (grind arith)
+
+pub tag_lost : (tag : ℕ) (r : Result Field UnknownTag) (o : Option Field) (e x : Refusal) → IsTagged tag r → o ≡ result_ok r → Err x ≡ ok_or o e → IsUnknown tag
+tag_lost tag (Ok g) o e x h k l = absurd (grind arith)
+tag_lost tag (Err y) o e x h k l = h.1

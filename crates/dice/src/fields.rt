@@ -79,10 +79,7 @@ impl Elements for Fields {
         let Item::Field(tag, content) = taken.item else {
             return Err(Refusal::Unknown(at));
         };
-        // A `map_err` here would leave the proof without what the conversion says.
-        let Ok(field) = Field::try_from(tag) else {
-            return Err(Refusal::Unknown(at));
-        };
+        let field = Field::try_from(tag).ok().ok_or(Refusal::Unknown(at))?;
         if !is_formed(field, content.bytes()) {
             return Err(Refusal::Malformed(at));
         }

@@ -19,10 +19,9 @@ fn read_algorithm(part: Part<'_>, digests: Digests) -> Result<Read<Algorithm>, R
     ensures within { TakenFrom (piece part.entry) result }
 {
     let number = read_number(part)?;
-    // A `map_err` here would leave the proof without what the conversion says.
-    let Ok(algorithm) = Algorithm::try_from(number.value) else {
-        return Err(Refusal::Unknown(part.place()));
-    };
+    let algorithm = Algorithm::try_from(number.value)
+        .ok()
+        .ok_or(Refusal::Unknown(part.place()))?;
     if digests.has(algorithm) {
         return Err(Refusal::Unknown(part.place()));
     }
