@@ -8,15 +8,11 @@ use Rattle.refusals.specs.declared.Refusal.TheVariants.{Unknown}
 use Rattle.claims.specs.declared.kinds.Claim.{Claim}
 use Rattle.parts.specs.Parts.{Piece}
 use Rattle.der.specs.Items.{Front, field, item_of}
-use Rattle.dice.specs.Fields.{tag_of, IsTagged, formed, of_values, in_environment, field_says, field_at}
+use Rattle.dice.specs.Fields.{tag_of, IsUnknown, IsTagged, formed, of_values, in_environment, field_says, field_at}
 use Rattle.dice.specs.declared.kinds.Field.{Field}
 use Rattle.dice.specs.declared.kinds.Field.TheVariants.{Vendor, Model, Version, Svn, Layer, Index, Digests, Flags, Raw, Class}
 use Rattle.dice.specs.declared.kinds.Fields.{Fields}
 use Rattle.dice.specs.declared.kinds.UnknownTag.{UnknownTag}
-
--- a tag that is none of a field's
-abbrev pub IsUnknown : ℕ → Type 0
-IsUnknown tag = (f : Field) → tag_of f ≢ tag
 
 module _ (tag : ℕ) (h : IsUnknown tag) where
   ne : (f : Field) → (tag ≡ tag_of f) → ⊥

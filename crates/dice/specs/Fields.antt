@@ -39,10 +39,14 @@ tag_of Flags = 0x87
 tag_of Raw = 0x88
 tag_of Class = 0x89
 
+-- a tag that is none of a field's
+abbrev pub IsUnknown : ℕ → Type 0
+IsUnknown tag = (field : Field) → tag_of field ≢ tag
+
 -- the field whose tag this is; or it is the tag of none
 abbrev pub IsTagged : ℕ → Result Field UnknownTag → Type 0
 IsTagged tag (Ok field) = tag_of field ≡ tag
-IsTagged tag (Err error) = (error.0 ≡ tag) × ((field : Field) → tag_of field ≢ tag)
+IsTagged tag (Err error) = (error.0 ≡ tag) × IsUnknown tag
 
 -- numbers are shortest INTEGERs, and flags have their count of unused bits
 abbrev pub formed : ℕ → List ℕ → Bool

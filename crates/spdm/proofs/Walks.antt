@@ -13,6 +13,9 @@ use Rattle.spdm.specs.declared.kinds.Entry.{Entry}
 use Rattle.spdm.specs.Rows.{entry_of, row_of, reading}
 use Rattle.spdm.specs.Walks.{row_more, row_none}
 
+-- How far a reading of blocks one after the other has come. These are statements about rows that stand by themselves; `walk` is proved by
+-- the elements of a part, in Walked.
+
 -- one claim more, counted with no bound
 abbrev pub noted : ℕ → Pick Claim → Claim → Pick Claim
 noted wanted p c = record { seen = p.seen + 1; kept = cond (p.seen == wanted) (Some c) p.kept }
