@@ -11,12 +11,32 @@ push_byte : (bs : List ℕ) (b : ℕ) (o : Option (List ℕ))
 push_byte bs b None = refl
 push_byte bs b (Some cs) = ap Some (sym (append_assoc bs (b ∷ []) cs))
 
+none_yet : (o : Option (List ℕ)) → o ≡ option_map (λ cs. [] ++ cs) o
+none_yet None = refl
+none_yet (Some cs) = refl
+
+-- before the first pair
+pub pairs_begin : (word rest bs : List ℕ) → rest ≡ word → bs ≡ [] → pair_bytes word ≡ option_map (λ cs. bs ++ cs) (pair_bytes rest)
+pairs_begin word rest bs r b = rw (r, b) (none_yet (pair_bytes word))
+
 pair_first : (ds left bs : List ℕ) (b : ℕ) → length ds ≡ 2 → byte_of (digit_of (get_or ds 0 0)) (digit_of (get_or ds 1 0)) ≡ Some b
     → option_map (λ cs. bs ++ cs) (pair_bytes (ds ++ left)) ≡ option_map (λ cs. (bs ++ b ∷ []) ++ cs) (pair_bytes left)
 pair_first [] left bs b n e = absurd (omega arith)
 pair_first (h ∷ []) left bs b n e = absurd (omega arith)
 pair_first (h ∷ l ∷ []) left bs b n e = rw e (push_byte bs b (pair_bytes left))
 pair_first (h ∷ l ∷ d ∷ ds) left bs b n e = absurd (omega arith)
+
+before_none : (b : Option ℕ) → before b None ≡ None
+before_none None = refl
+before_none (Some b) = refl
+
+-- digits in an odd number are no pairs
+pub odd_none : (xs : List ℕ) → length xs % 2 ≡ 1 → pair_bytes xs ≡ None
+odd_none [] h = grind arith
+odd_none (x ∷ []) h = refl
+odd_none (x ∷ y ∷ xs) h =
+    let e : pair_bytes xs ≡ None = odd_none xs (omega arith) in
+    ap (λ (o : Option (List ℕ)). before (byte_of (digit_of x) (digit_of y)) o) e ∙ before_none _
 
 -- one more pair read, its byte after those that are there
 pub pair_read : (word rest ds left bs more : List ℕ) (b : ℕ) → pair_bytes word ≡ option_map (λ cs. bs ++ cs) (pair_bytes rest)

@@ -1,8 +1,9 @@
-ghost use Rattle.std.specs.Prelude.{◌≡◌, ℕ, ◌<◌, List, IfSome, Some, vec_items, string_bytes};
-ghost use Rattle.std.specs.List.{AllByRecursion};
+ghost use Rattle.std.specs.Prelude.{◌≡◌, ℕ, ◌*◌, ◌<◌, ◌≤◌, List, length, take, IfSome, Some, vec_items, string_bytes};
+ghost use Rattle.std.specs.List.{flat_map, AllByRecursion};
+ghost use Rattle.std.specs.Str.{IsUtf8};
 ghost use Rattle.std.specs.Option.{ok_or};
 ghost use Rattle.script.specs.Complaints.{Tells};
-ghost use Rattle.script.specs.Hex.{digit_of, byte_of, pair_bytes, hex_bytes, hex_text};
+ghost use Rattle.script.specs.Hex.{digit_of, byte_of, pair_bytes, hex_bytes, hex_digit, hex_pair, hex_text};
 ghost use Rattle.script.specs.Texts.{Appends};
 ghost use Rattle.script.specs.declared.complaints.Complaint.TheVariants.{BadHex};
 
@@ -37,8 +38,11 @@ fn pair(high: u8, low: u8) -> Option<u8>
 fn read_pairs(heap: Global, word: &[u8]) -> Result<Vec<u8>, Complaint>
     ensures { Tells vec_items result (ok_or (pair_bytes word.now) BadHex) }
 {
+    // A last digit alone is no pair. Asked first, so that it is told with no memory.
+    if word.len() % 2 == 1 {
+        return Err(Complaint::BadHex);
+    }
     let mut bytes = Vec::new(heap);
-    // A last digit alone is no pair.
     for digits in word.chunks(2) {
         let [high, low] = digits else {
             return Err(Complaint::BadHex);
@@ -64,6 +68,32 @@ pub fn read_hex(heap: Global, word: &[u8]) -> Result<Vec<u8>, Complaint>
     read_pairs(heap, word)
 }
 
+// The digit of a value, in upper case.
+fn hex_digit(value: u8) -> u8
+    requires { value < 16 }
+    ensures value { result ≡ hex_digit value }
+    ensures ascii { result < 128 }
+{
+    if value < 10 {
+        b'0' + value
+    } else {
+        b'A' + (value - 10)
+    }
+}
+
+// Puts the two digits of each byte into a buffer, from its beginning.
+fn put_digits(bytes: &[u8], buffer: &mut [u8; 64])
+    requires { length bytes.now ≤ 32 }
+    ensures digits { take (2 * length bytes.now) buffer.new ≡ flat_map hex_pair bytes.now }
+    ensures utf8 { IsUtf8 (take (2 * length bytes.now) buffer.new) }
+{
+    // By index, as each byte sets two places of the buffer.
+    for i in 0..bytes.len() {
+        buffer[2 * i] = hex_digit(bytes[i] / 16);
+        buffer[2 * i + 1] = hex_digit(bytes[i] % 16);
+    }
+}
+
 // Bytes that print as the word for them: two digits a byte, in upper case, or `-` for no bytes.
 #[derive(Clone, Copy)]
 pub struct Hex<'a>(pub &'a [u8]);
@@ -75,8 +105,14 @@ impl fmt::Display for Hex<'_> {
         if self.0.is_empty() {
             return f.write_str("-");
         }
-        for &byte in self.0 {
-            write!(f, "{byte:02X}")?;
+        // The digits of many bytes in one write, as a write for each byte took several times as long.
+        for bytes in self.0.chunks(32) {
+            let mut buffer = [0; 64];
+            put_digits(bytes, &mut buffer);
+            let Ok(digits) = str::from_utf8(&buffer[..2 * bytes.len()]) else {
+                unreachable!();
+            };
+            f.write_str(digits)?;
         }
         Ok(())
     }

@@ -1,24 +1,39 @@
 use Rattle.std.specs.Prelude.{◌≡◌, ℕ, zero, suc, ◌+◌, ◌-◌, ◌<◌, ◌≤◌, cond, List, [], ◌∷◌, ◌++◌, length, drop, Some, None, Ok, Err, Option, ◌==◌, refl}
-use Rattle.std.proofs.Common.{sym, ap, ◌∙◌, append_assoc, arith}
+use Rattle.std.proofs.Common.{min, false, true, sym, ap, subst, ◌∙◌, append_assoc, arith}
 use Rattle.std.proofs.lemmas.List.{append-nil, drop-drop, length-drop, length_push}
+use Rattle.std.proofs.lemmas.Bool.{cond-true, cond-false, eq-eqb, ne_eqb}
 use Rattle.refusals.specs.declared.Refusal.{Refusal}
 use Rattle.refusals.specs.Reading.{onward, keeps}
 use Rattle.claims.specs.declared.kinds.Claim.{Claim}
 use Rattle.evidence.specs.Readings.{Reading}
+use Rattle.parts.specs.Parts.{Piece, after, none, whole_of}
 use Rattle.parts.specs.Picks.{picked}
 use Rattle.parts.proofs.Noted.{nth_push}
+use Rattle.parts.proofs.Steps.{none_true, none_false}
 use Rattle.parts.specs.declared.kinds.Pick.{Pick}
 use Rattle.spdm.specs.declared.kinds.Setup.{Setup}
 use Rattle.spdm.specs.declared.kinds.Entry.{Entry}
 use Rattle.spdm.specs.Rows.{entry_of, row_of, reading}
 use Rattle.spdm.specs.Walks.{row_more, row_none}
 
--- How far a reading of blocks one after the other has come. These are statements about rows that stand by themselves; `walk` is proved by
--- the elements of a part, in Walked.
+-- How far a reading of blocks one after the other has come: the loop of `walk` keeps what stands here.
 
 -- one claim more, counted with no bound
 abbrev pub noted : ℕ → Pick Claim → Claim → Pick Claim
 noted wanted p c = record { seen = p.seen + 1; kept = cond (p.seen == wanted) (Some c) p.kept }
+
+-- the same, step by step: the one that is wanted is kept, and then it is counted
+pub noted_now : (wanted : ℕ) (p q : Pick Claim) (c : Claim) → p.seen ≡ wanted → q ≡ record { seen = p.seen; kept = Some c }
+    → record { seen = q.seen + 1; kept = q.kept } ≡ noted wanted p c
+noted_now wanted p q c here e =
+    ap (λ (o : Pick Claim). record { seen = o.seen + 1; kept = o.kept }) e
+    ∙ ap (λ (o : Option Claim). record { seen = p.seen + 1; kept = o }) (sym (cond-true _ _ _ (eq-eqb p.seen wanted here)))
+
+pub noted_past : (wanted : ℕ) (p q : Pick Claim) (c : Claim) → (p.seen ≡ wanted → ⊥) → q ≡ p
+    → record { seen = q.seen + 1; kept = q.kept } ≡ noted wanted p c
+noted_past wanted p q c other e =
+    ap (λ (o : Pick Claim). record { seen = o.seen + 1; kept = o.kept }) e
+    ∙ ap (λ (o : Option Claim). record { seen = p.seen + 1; kept = o }) (sym (cond-false _ _ _ (ne_eqb p.seen wanted other)))
 
 pub picked_more : (wanted : ℕ) (cs : List Claim) (c : Claim) → noted wanted (picked wanted cs) c ≡ picked wanted (cs ++ c ∷ [])
 picked_more wanted cs c = rw (length_push cs c, nth_push cs c wanted)
@@ -95,3 +110,39 @@ walk_ends s m wanted at last p past w =
     let empty : length (drop at m) ≡ 0 = rw length-drop (omega arith) in
     let whole : reading s m ≡ Ok w.done = w.rest ∙ rw (row_none s w.steps last at (drop at m) empty, append-nil w.done) in
     rw whole (ap (λ (q : Pick Claim). Ok q) (sym w.kept))
+
+-- the same, where the rest of the message is a part of it
+pub record WalkedTo (s : Setup) (m : List ℕ) (wanted : ℕ) (last : Option ℕ) (p : Pick Claim) (rest : Piece) : Type 0 where
+  pub left : rest.bytes ≡ drop rest.at m
+  pub walked : Walked s m wanted rest.at last p
+
+pub rest_begins : (s : Setup) (m : List ℕ) (wanted : ℕ) → WalkedTo s m wanted None (record { seen = 0; kept = None }) (whole_of m)
+rest_begins s m wanted = record { left = refl; walked = walk_begins s m wanted }
+
+module _ (s : Setup) (m : List ℕ) (wanted : ℕ) (last : Option ℕ) (p : Pick Claim) (rest : Piece) (w : WalkedTo s m wanted last p rest) where
+  rest_inside : none rest ≡ false → rest.at < length m
+  rest_inside b = omega (arith, none_false rest b, ap length w.left, length-drop rest.at m)
+
+  -- fewer claims came by than the message has bytes
+  pub rest_few : none rest ≡ false → p.seen < length m
+  rest_few b = omega (arith, rest_inside b, ap (λ (q : Pick Claim). q.seen) w.walked.kept, w.walked.few)
+
+  pub rest_goes : none rest ≡ false → (e : Entry) (q : Pick Claim) → q ≡ noted wanted p e.claim → Ok e ≡ entry_of s last rest.at rest.bytes → 7 ≤ e.size → e.size ≤ length rest.bytes
+      → WalkedTo s m wanted (Some e.index) q (after e.size rest)
+  rest_goes b e q note found large fits =
+      let here : rest.at + min e.size (length rest.bytes) ≡ rest.at + e.size = omega arith in
+      let found₁ : entry_of s last rest.at (drop rest.at m) ≡ Ok e = rw (← w.left) (sym found) in
+      let fits₁ : e.size ≤ length (drop rest.at m) = rw (← w.left) fits in
+      record {
+        left = ap (drop e.size) w.left ∙ drop-drop e.size rest.at m ∙ ap (λ (i : ℕ). drop i m) (sym here);
+        walked = subst (λ (i : ℕ). Walked s m wanted i (Some e.index) q) (sym here)
+            (walk_goes s m wanted rest.at last p (rest_inside b) e q note found₁ large fits₁ w.walked);
+      }
+
+  pub rest_stops : none rest ≡ false → (e : Refusal) → Err e ≡ entry_of s last rest.at rest.bytes → Err e ≡ keeps (reading s m) (picked wanted)
+  rest_stops b e found =
+      sym (walk_stops s m wanted rest.at last p (rest_inside b) e (rw (← w.left) (sym found)) w.walked)
+
+  pub rest_ends : none rest ≡ true → Ok p ≡ keeps (reading s m) (picked wanted)
+  rest_ends b =
+      sym (walk_ends s m wanted rest.at last p (omega (arith, none_true rest b, ap length w.left, length-drop rest.at m)) w.walked)

@@ -108,7 +108,10 @@ pub fn read_entry(setup: &Setup, last: Option<u64>, part: Part<'_>) -> Result<En
     if !rises(last, index) {
         return Err(Refusal::Unknown(at));
     }
-    let claim = claim_of(setup, &block).ok_or(Refusal::OutOfLimits(at))?;
+    // A pattern and not `ok_or`, which copies the claim for each block.
+    let Some(claim) = claim_of(setup, &block) else {
+        return Err(Refusal::OutOfLimits(at));
+    };
     Ok(Entry {
         index,
         size: 7 + block.value.len(),

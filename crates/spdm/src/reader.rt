@@ -7,10 +7,10 @@ ghost use Rattle.spdm.specs.Setups.{setup_of};
 ghost use Rattle.spdm.specs.Rows.{reading};
 ghost use Rattle.spdm.specs.Told.{keeps_limits, refuses_as_reader};
 
-use crate::kinds::{Row, Setup, Spdm};
+use crate::blocks::read_entry;
+use crate::kinds::{Setup, Spdm};
 use claims::kinds::{Algorithm, Bytes, Claim};
 use evidence::Format;
-use parts::holders::read_elements;
 use parts::kinds::{Part, Pick};
 use refusals::Refusal;
 
@@ -31,17 +31,24 @@ impl Spdm {
 fn walk(setup: &Setup, message: &[u8], wanted: usize) -> Result<Pick<Claim>, Refusal>
     ensures { result ≡ keeps (reading setup.now message.now) (picked wanted) }
 {
-    let start = Row {
-        setup: *setup,
-        wanted,
-        last: None,
-        pick: Pick {
-            seen: 0,
-            kept: None,
-        },
+    let mut last = None;
+    let mut pick = Pick {
+        seen: 0,
+        kept: None,
     };
-    let row = read_elements(Part::whole(message), start)?;
-    Ok(row.pick)
+    let mut rest = Part::whole(message);
+    // A loop of its own and not `read_elements`: a row's state holds a claim, and moving it for each block took 2.5 times as long.
+    while !rest.is_empty() {
+        let entry = read_entry(setup, last, rest)?;
+        // In place and not by `note`, which copies the kept claim for each block.
+        if pick.seen == wanted {
+            pick.kept = Some(entry.claim);
+        }
+        pick.seen += 1;
+        last = Some(entry.index);
+        rest = rest.after(entry.size);
+    }
+    Ok(pick)
 }
 
 impl Format for Spdm {
